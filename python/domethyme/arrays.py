@@ -39,7 +39,8 @@ def pairs_of(pairs: Any, keys: Keys | None, nodes: int) -> Numbers:
     columns = columns_of(pairs)
     if keys is not None:
         firsts, seconds = columns if columns is not None else split(pairs)
-        found = np.column_stack([keys.nodes(firsts), keys.nodes(seconds)])
+        starts = keys.nodes(firsts)
+        found = np.column_stack([starts, np.fromiter(map(keys.end, as_list(seconds), starts.tolist()), np.int64)])
     else:
         parts = [pairs] if columns is None else columns  # (by themselves: numpy makes floats of columns of int64 and uint64)
         found, *others = [whole_numbers("pairs", part, 0, MAX_NODES - 1) for part in parts]
@@ -74,10 +75,10 @@ def split(pairs: Iterable[Any]) -> tuple[list[Hashable], list[Hashable]]:
     return [row[0] for row in rows], [row[1] for row in rows]
 
 
-def nodes_of(name: str, values: Any, keys: Keys | None, nodes: int) -> Numbers:
-    """The values, an array or anything that can be iterated, as an array of one dimension of nodes from 0."""
+def nodes_of(name: str, values: Any, keys: Keys | None, nodes: int, are_ends: bool = False) -> Numbers:
+    """The values, an array or anything that can be iterated, as an array of one dimension of nodes from 0, where routes begin or end."""
     if keys is not None:
-        return keys.nodes(values)
+        return np.fromiter(map(keys.end, as_list(values)), np.int64) if are_ends else keys.nodes(values)
     array = whole_numbers(name, values if hasattr(values, "__array__") else as_list(values), 0, MAX_NODES - 1)
     if array.ndim != 1:
         raise ValueError(f"{name} have to be of one dimension")
@@ -121,6 +122,13 @@ def is_pandas(value: Any) -> bool:
 def series(lengths: Numbers, index: Any) -> Any:
     """The lengths as a Series of Int64 with this index, missing if there is no path."""
     return load("pandas").Series(with_missing(lengths), index=index, name="length")
+
+
+def stay(table: Numbers, starts: Numbers, ends: Numbers, keys: Keys | None) -> None:
+    """Sets cells to 0 where a path begins and ends at one junction with turn restrictions, by its key."""
+    begins = {} if keys is None else keys.begins()
+    for column in np.flatnonzero(np.isin(ends, list(begins))).tolist():
+        table[starts == begins[int(ends[column])], column] = 0
 
 
 def like_axes(table: NDArray[Any], sources: Any, targets: Any, has_keys: bool, missing: Any) -> Any:

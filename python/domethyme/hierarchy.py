@@ -139,11 +139,11 @@ class Hierarchy:
 
     def length(self, source: Hashable, target: Hashable) -> int | None:
         """The length of a shortest path from one node to another, None if there is no path. Raises NoSuchNode."""
-        return self._router.length(self._node(source), self._node(target))
+        return self._router.length(*self._pair(source, target))
 
     def route(self, source: Hashable, target: Hashable) -> Route | None:
         """A shortest path from one node to another, None if there is no path. Raises NoSuchNode."""
-        return self._route(self._router.route(self._node(source), self._node(target)))
+        return self._route(self._router.route(*self._pair(source, target)))
 
     def between(self, starts: Ends, ends: Ends) -> Route | None:
         """The shortest route from one of several nodes to one of several, None if there is no path.
@@ -152,7 +152,7 @@ class Hierarchy:
         length), or nodes alone with 0 added; a row that is a key is that key. Added lengths are integers from 0 to 4294967295. The route's source and target
         are those that were taken, and its length has what was added. Raises NoSuchNode and ValueError.
         """
-        return self._route(self._router.between(self._ends("starts", starts), self._ends("ends", ends)))
+        return self._route(self._router.between(self._ends("starts", starts), self._ends("ends", ends, True)))
 
     # Many questions
 
@@ -231,12 +231,14 @@ class Hierarchy:
         sources = sources if hasattr(sources, "__array__") else as_list(sources)
         targets = sources if targets is None else targets if hasattr(targets, "__array__") else as_list(targets)
         starts = arrays.nodes_of("sources", sources, self.keys, self.nodes)
-        ends = arrays.nodes_of("targets", targets, self.keys, self.nodes)
+        ends = arrays.nodes_of("targets", targets, self.keys, self.nodes, are_ends=True)
         table = batch.table(self._router, starts, ends, progress)
+        arrays.stay(table, starts, ends, self.keys)
         lengths = arrays.like_axes(table, sources, targets, self.keys is not None, missing)
         if not is_with_metres(sums):
             return lengths
         found = self._metres_summer().table(starts, ends)[1]
+        arrays.stay(found, starts, ends, self.keys)
         without = float("nan") if missing is None else missing
         return {"length": lengths, "metres": arrays.like_axes(arrays.thousandths(found), sources, targets, self.keys is not None, without)}
 
@@ -299,7 +301,7 @@ class Hierarchy:
             limit = self._limit_of(minutes, limit)
         if limit is not None and not (is_whole(limit) and 0 <= limit <= MAX_LIMIT):
             raise ValueError(f"limit has to be an integer from 0 to 2^62, or None, and is {limit!r}")
-        ends = self._ends("starts", starts)
+        ends = self._ends("starts", starts, towards)
         if not is_with_metres(sums):
             lengths = batch.reach(self._towards() if towards else self._router, ends, limit)
             return lengths if self.keys is None else arrays.by_keys(lengths, self.keys)
@@ -579,6 +581,11 @@ class Hierarchy:
             raise ValueError("the hierarchy has no network: pass network= to Hierarchy")
         return self.network
 
+    def _pair(self, source: Hashable, target: Hashable) -> tuple[int, int]:
+        """The numbers of two nodes or keys, from 0, where a route begins and where it ends."""
+        start = self._node(source)
+        return start, self._node(target) if self.keys is None else self.keys.end(target, start)
+
     def _node(self, node: Hashable) -> int:
         """The number of a node or key, from 0."""
         if self.keys is not None:
@@ -591,8 +598,8 @@ class Hierarchy:
             raise NoSuchNode(f"there is no node {number}: the hierarchy has nodes 0 to {self.nodes - 1}", node)
         return number
 
-    def _ends(self, name: str, ends: Ends) -> list[tuple[int, int]]:
-        """One side of `between`: nodes from 0, and what is added at each."""
+    def _ends(self, name: str, ends: Ends, are_ends: bool = False) -> list[tuple[int, int]]:
+        """One side of `between`, where routes begin or end: nodes from 0, and what is added at each."""
         need_list(name, ends)
         rows = ends.items() if isinstance(ends, Mapping) else [
             row if isinstance(row, tuple) and len(row) == 2 and not self._is_key(row) else (row, 0) for row in ends
@@ -603,6 +610,8 @@ class Hierarchy:
             if not is_whole(added):
                 raise ValueError(f"the lengths added at {name} must be integers, not {added!r}")
             found.append((number, operator.index(added)))
+            if are_ends and self.keys is not None and (end := self.keys.end(node)) != number:
+                found.append((end, operator.index(added)))
         if not found:
             raise ValueError(f"{name} have to be a node or more")
         if not all(0 <= added <= MAX_ADDED for _, added in found):

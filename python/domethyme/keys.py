@@ -34,6 +34,7 @@ class Keys:
         self._names: list[Hashable]
         self._nodes: dict[Any, int]
         self._ambiguous: set[Hashable] = set()
+        self._ends: dict[Any, int] = {}  # (where routes end, of keys of junctions with turn restrictions)
         self._digests: frozenset[str] = frozenset()
         self._is_partial = isinstance(keys, Mapping)
         if isinstance(keys, Keys):
@@ -60,7 +61,7 @@ class Keys:
     def read(cls, path: StrPath, column: str = "osm") -> "Keys":
         """The keys in a column of a CSV file with a row for each node, in order, as NETWORK.nodes.csv: as int if all are whole
         numbers, else all as str; an empty field is no key. A key of several nodes can't be asked for, but that of a junction with
-        turn restrictions, which is the node where routes begin (the column ends is `from`). Raises NetworkError."""
+        turn restrictions, which is the node where routes begin (the column ends is `from`), and where they end (`to`). Raises NetworkError."""
         with open_table(path, [column]) as rows:
             listed = [(fields[column], fields.get("ends", "")) for _, fields in rows]
         return cls.of_rows(zip(parse_keys([text for text, _ in listed]), [ends for _, ends in listed]))
@@ -69,16 +70,17 @@ class Keys:
     def of_rows(cls, rows: Iterable[tuple[Hashable, str]]) -> "Keys":
         """The key of each node, or None, and its place at a junction with turn restrictions, as `read` has them."""
         listed = list(rows)
-        begins = {key: node for node, (key, end) in enumerate(listed) if end == "from" and key is not None}
-        return cls._choosing([key for key, _ in listed], begins)
+        begins, ends = ({key: node for node, (key, end) in enumerate(listed) if end == side and key is not None} for side in ("from", "to"))
+        return cls._choosing([key for key, _ in listed], begins, {key: node for key, node in ends.items() if key in begins})
 
     @classmethod
-    def _choosing(cls, names: list[Hashable], chosen: Mapping[Any, int]) -> "Keys":
-        """The key of each node, or None, and the nodes of keys that name several."""
+    def _choosing(cls, names: list[Hashable], chosen: Mapping[Any, int], ends: Mapping[Any, int]) -> "Keys":
+        """The key of each node, or None, and the nodes of keys that name several, where routes begin and where they end."""
         keys = cls(())
         keys._names = names
         keys._nodes, keys._ambiguous = index_keys(names)
         keys._nodes |= chosen
+        keys._ends = {**ends}
         keys._ambiguous -= chosen.keys()
         return keys
 
@@ -101,7 +103,7 @@ class Keys:
         plainly, _ = index_keys(self._names)
         chosen = [[key, node] for key, node in self._nodes.items() if key not in plainly]
         digest = digest_of(hierarchy)
-        saved = {"format": FORMAT, "hierarchy": digest, "keys": self._names, "chosen": chosen}
+        saved = {"format": FORMAT, "hierarchy": digest, "keys": self._names, "chosen": chosen, "ends": [*self._ends.items()]}
         with atomic_write(keys_path(hierarchy)) as file:
             file.write(as_json({**saved, "sum": hashlib.sha256(as_json(saved).encode()).hexdigest()}))
         self._digests |= {digest}
@@ -155,12 +157,21 @@ class Keys:
         return is_hashable(key) and (key in self._nodes or key in self._ambiguous)
 
     def node(self, key: Hashable) -> int:
-        """The node of a key, from 0. Raises NoSuchNode."""
+        """The node of a key, from 0, at a junction with turn restrictions that where routes begin. Raises NoSuchNode."""
         if is_hashable(key) and key in self._nodes:
             return self._nodes[key]
         other = next((each for each in (str(key), parse_key(str(key))) if each in self._nodes and each != key), None)
         doubt = "" if other is None else f"; there is {other!r}, {'a number' if type(other) is int else 'a text'}"
         raise NoSuchNode(f"key {key!r} names {'several nodes' if self.names_any(key) else 'no node'}{doubt}", key)
+
+    def end(self, key: Hashable, source: int | None = None) -> int:
+        """The node of a key where routes end, those from a node `source` that the key has too there. Raises NoSuchNode."""
+        node = self.node(key)
+        return node if node == source else self._ends.get(key, node)
+
+    def begins(self) -> dict[int, int]:
+        """For each node where routes end alone the one of its key where they begin."""
+        return {node: self._nodes[key] for key, node in self._ends.items()}
 
     def key(self, node: int) -> Hashable:
         """The key of a node, None where it has none."""
@@ -200,10 +211,10 @@ def load_if_matching(hierarchy: StrPath, digest: str) -> Keys | None:
             raise FileError(f"is of another format than {FORMAT!r}", path)
         if saved["hierarchy"] != digest:
             return None
-        names, chosen = list(saved["keys"]), dict(saved["chosen"])
-        if any(names[node] != key for key, node in chosen.items()):
+        names, chosen, ends = list(saved["keys"]), dict(saved["chosen"]), dict(saved.get("ends", ()))
+        if any(names[node] != key for key, node in (*chosen.items(), *ends.items())):
             raise ValueError("chosen")
-        keys = Keys._choosing(names, chosen)
+        keys = Keys._choosing(names, chosen, ends)
     except OSError as error:
         raise FileError(os_reason(error), path) from error
     except (ValueError, TypeError, LookupError, AttributeError) as error:

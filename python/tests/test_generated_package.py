@@ -204,6 +204,40 @@ def millimetres_reached(net: Network, lengths: dict[int, int], starts: dict[int,
     return found
 
 
+@drawn(50)
+@given(st.data())
+def test_ids_of_a_map(data: Any) -> None:
+    """Routes begin and end at the right nodes of junctions with turn restrictions, which have one key, and stay at one."""
+    made = data.draw(networks())
+    begins, ends = ({node.osm: number for number, node in enumerate(made.tables.nodes) if node.ends in ("", side)} for side in ("from", "to"))
+    known = sorted(osm for osm in begins if osm is not None and osm in ends)
+    if not known:
+        return
+    with tempfile.TemporaryDirectory() as folder:
+        write_network(made, pathlib.Path(folder) / "net")
+        network = domethyme.Network(f"{folder}/net")
+        with domethyme.Hierarchy(f"{folder}/net.rch", keys=network.keys("osm"), network=network) as given:
+            given.keys.save(f"{folder}/net.rch")
+        with domethyme.Hierarchy(f"{folder}/net.rch", keys=domethyme.Keys.load(f"{folder}/net.rch"), network=network) as hierarchy:
+            starts, targets = (data.draw(st.lists(st.sampled_from(known), min_size=1, max_size=4, unique=True)) for _ in range(2))
+            lengths = [made.tables.lengths({begins[start]: 0}) for start in starts]
+            wanted = [
+                [0 if start == target else found.get(ends[target], -1) for target in targets] for start, found in zip(starts, lengths)
+            ]
+            pairs, flat = [(start, target) for start in starts for target in targets], [length for row in wanted for length in row]
+            assert hierarchy.lengths(pairs).tolist() == flat == [-1 if each is None else each for each in (hierarchy.length(*pair) for pair in pairs)]
+            routes = hierarchy.routes(pairs)
+            assert routes.lengths.tolist() == flat and routes.to_frame()[["from", "to"]].to_numpy().tolist() == [*map(list, pairs)]
+            assert hierarchy.matrix(np.array(starts), np.array(targets)).tolist() == wanted
+            summed = hierarchy.matrix(starts, targets, sums=["metres"])
+            assert domethyme.unscaled(summed["length"]).to_numpy().tolist() == [[each if each >= 0 else math.inf for each in row] for row in wanted]
+            assert all(summed["metres"].loc[key, key] == 0 for key in {*starts} & {*targets})
+            found, there = hierarchy.between(starts, targets), hierarchy.reach(targets, towards=True).fillna(-1)
+            assert (-1 if found is None else found.length) == min((length for length in flat if length >= 0), default=-1)
+            assert found is None or found.source in starts and found.target in targets
+            assert [there.iloc[begins[start]] for start in starts] == [min((each for each in row if each >= 0), default=-1) for row in wanted]
+
+
 @drawn(110)
 @given(st.data())
 def test_places(data: Any) -> None:
