@@ -64,9 +64,9 @@ class Measured:
         found = self.rounds(network, job, "megabytes")
         return f"{max(found.values()):,.0f} MB" if found else NOT_MEASURED
 
-    def links(self, network: str) -> str:
+    def links(self, network: str, made: str = "balanced 1") -> str:
         """Links of the hierarchy for each arc of the graph."""
-        found = self.networks[network]["links"].get("balanced 1")
+        found = self.networks[network]["links"].get(made)
         return f"{found:.2f}" if found else NOT_MEASURED
 
     def pair(self, network: str, kind: str, program: str = "route") -> Rounds:
@@ -149,16 +149,14 @@ def machine(measured: Measured) -> str:
 
 
 def times(measured: Measured) -> str:
-    """What each command takes, by network."""
-    heads = ["Nodes", "`prepare`, 1 worker", "memory", "4 workers", "memory", "links per arc", "`check`", "memory", "loading", "memory"]
-    heads += ["a random pair", "a near pair"]
+    """What preparing and checking take, by network."""
+    heads = ["Nodes", "`prepare`, 1 worker", "memory", "links per arc", "4 workers", "memory", "`check`", "memory"]
     rows = []
     for name in measured.large():
         cells = []
-        for job in ["prepare balanced 1", "prepare balanced 4", "check balanced", "route balanced none"]:
+        for job in ["prepare balanced 1", "prepare balanced 4", "check balanced"]:
             cells += [measured.time(name, job), measured.memory(name, job)]
-        cells[4:4] = [measured.links(name)]
-        cells += [written(median(measured.pair(name, kind))) for kind in KINDS]
+        cells[2:2] = [measured.links(name)]
         rows.append([measured.title(name), *cells])
     return table(heads, rows)
 
@@ -174,6 +172,15 @@ COMPARED = {
     "a later call": ("table 1,000 x 1,000, random kept", "table.cpp 1,000 x 1,000, random kept"),
     "one to all, first call": ("table 1 to all first", "table.cpp 1 to all first"),
     "a later call of it": ("table 1 to all kept", "table.cpp 1 to all kept"),
+}
+
+# Kinds of these, by their titles.
+KINDS_COMPARED = {
+    "preparing": ["preparing, one worker"],
+    "a random pair": ["a random pair"],
+    "a near pair": ["a near pair"],
+    "a table": ["a table of 100 x 100, first call", "a table of 1,000 x 1,000, first call", "a later call"],
+    "one to all": ["one to all, first call", "a later call of it"],
 }
 
 
@@ -215,13 +222,16 @@ def job_of_table(job: str) -> bool:
     return job.startswith("table")
 
 
-def settled(measured: Measured) -> str:
-    """How many nodes a pair settles."""
+def pairs(measured: Measured) -> str:
+    """What loading and a pair take, and how many nodes a pair settles."""
     rows = []
     for name in measured.large():
-        counts = [measured.networks[name].get("settled", {}).get(f"balanced {kind}") for kind in KINDS]
-        rows.append([measured.title(name), *(NOT_MEASURED if count is None else f"{count:.0f}" for count in counts)])
-    return table(["Nodes", "random", "near"], rows)
+        cells = [measured.time(name, "route balanced none"), measured.memory(name, "route balanced none")]
+        for kind in KINDS:
+            count = measured.networks[name].get("settled", {}).get(f"balanced {kind}")
+            cells += [written(median(measured.pair(name, kind))), NOT_MEASURED if count is None else f"{count:.0f}"]
+        rows.append([measured.title(name), *cells])
+    return table(["Nodes", "loading", "memory", "a random pair", "settled", "a near pair", "settled"], rows)
 
 
 def tables(measured: Measured) -> str:
@@ -244,19 +254,28 @@ def reached(measured: Measured) -> str:
     return table(["Nodes", "of them reached", "first call", "a later one"], rows)
 
 
-def figures(measured: Measured) -> str:
-    """The figures that PERFORMANCE.md begins with, of the largest network that is shown."""
-    name = max(measured.shown(), key=measured.nodes)
-    pair, near = (measured.pair(name, kind) for kind in KINDS)
-    lines = [
-        f"- **{measured.time(name, 'prepare balanced 1')}** of a processor to prepare {measured.nodes(name):,} nodes and "
-        f"{measured.networks[name]['arcs']:,} arcs, in {measured.memory(name, 'prepare balanced 1')}.",
-        f"- **{written(median(pair))}** for a random pair, {written(median(near))} for a near one: length and path.",
+def ratios_in_short(measured: Measured) -> str:
+    """The least and the greatest median of what is compared, over the networks."""
+    found, cells = compared(measured), []
+    for titles in KINDS_COMPARED.values():
+        medians = sorted(statistics.median(row.ratios) for row in found if row.title in titles)
+        cells.append(f"{medians[0]:.2f} to {medians[-1]:.2f}" if medians else NOT_MEASURED)
+    return table(KINDS_COMPARED, [cells])
+
+
+def textbook(measured: Measured) -> str:
+    """What the textbook's hierarchy takes, by network."""
+    rows = [
+        [measured.title(name), measured.time(name, "textbook"), measured.memory(name, "textbook"), measured.links(name, "textbook")]
+        for name in measured.large()
+        if measured.rounds(name, "textbook")
     ]
-    return "\n".join(lines)
+    return table(["Nodes", "`hierarchy.cpp`", "memory", "links per arc"], rows)
 
 
-TABLES = {"figures": figures, "machine": machine, "times": times, "settled": settled, "tables": tables, "reached": reached}
+TABLES = {
+    "machine": machine, "times": times, "pairs": pairs, "ratios": ratios_in_short, "textbook": textbook, "tables": tables, "reached": reached,
+}
 
 
 def summary(measured: Measured) -> str:
@@ -266,7 +285,10 @@ def summary(measured: Measured) -> str:
         cells = [measured.time(name, "prepare balanced 1"), measured.memory(name, "prepare balanced 1"), measured.time(name, "route balanced none")]
         rows.append([measured.title(name), *cells, *(written(median(measured.pair(name, kind))) for kind in KINDS)])
     date = min(row["when"] for row in measured.rows)[:10]
-    told = f"Processor time, measured on {date} by `--order balanced` on a machine of {measured.about['machine']}. All networks but the map are synthetic."
+    told = (
+        f"Processor time by `--order balanced` on {date}, {measured.about['machine']}. All networks but the map are synthetic: sparse as "
+        "the USA's, or grids, without fast roads if hard."
+    )
     heads = ["Nodes", "`prepare`, 1 worker", "memory", "loading", "a random pair", "a near pair"]
     picture = "![Time and settled nodes of a pair against its Dijkstra rank](docs/ranks.svg)"
     return f"{filled(told)}\n\n{table(heads, rows)}\n\n{picture}\n"
