@@ -114,7 +114,7 @@ def draw_ratios(axes: typing.Any) -> None:
     for place, row in enumerate(rows):
         middle = statistics.median(row.ratios)
         axes.plot([row.ratios[0], row.ratios[-1]], [place, place], "-", color="tab:blue")
-        axes.plot([middle], [place], "o", color="tab:blue", markersize=4, label="processor time: median, minimum to maximum" if not place else None)
+        axes.plot([middle], [place], "o", color="tab:blue", markersize=4, label="time: median, minimum to maximum" if not place else None)
         if row.instructions:
             axes.plot([row.instructions], [place], "d", color="black", markersize=3.5, fillstyle="none")
         axes.text(1.02, place, f"{middle:.2f} ({row.ratios[0]:.2f} to {row.ratios[-1]:.2f})", transform=axes.get_yaxis_transform(), va="center", fontsize=7)
@@ -132,12 +132,12 @@ def draw_ratios(axes: typing.Any) -> None:
 
 def draw_costs(left: typing.Any, right: typing.Any) -> None:
     measured, large = speed_page.Measured(speed_page.RUNS, speed_page.FACTS), read("scale.csv")
-    names = sorted((name for name in measured.networks if name != "hard"), key=measured.nodes)
-    nodes = [measured.nodes(name) for name in names]
+    sparse, others = ([name for name in measured.networks if name.startswith(speed_page.SHOWN) == is_shown] for is_shown in (True, False))
     for axes, head, unit in ((left, "processor", "s"), (right, "megabytes", "MB")):
         for label, job in {"prepare, four workers": "prepare balanced 4", "check": "check balanced", "route, no pairs": "route balanced none"}.items():
-            values = [statistics.median(measured.rounds(name, job, head).values()) for name in names]
-            line = axes.plot(nodes, values, "o-", label=label, markersize=4)[0]
+            values = {name: statistics.median(measured.rounds(name, job, head).values()) for name in sparse + others}
+            line = axes.plot([measured.nodes(name) for name in sparse], [values[name] for name in sparse], "o-", label=label, markersize=4)[0]
+            axes.plot([measured.nodes(name) for name in others], [values[name] for name in others], "x", color=line.get_color(), markersize=5)
             later = [(int(row["nodes"]), float(row[head])) for row in large if row["job"] == label and row[head]]
             if later:
                 axes.plot(*zip(*later), "o", color=line.get_color(), markersize=4, fillstyle="none")
