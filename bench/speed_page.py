@@ -116,16 +116,6 @@ def written(value: float | None) -> str:
     return f"{number:,.0f} {unit}" if number >= 100 else f"{number:.1f} {unit}" if number >= 10 else f"{number:.2f} {unit}"
 
 
-def ratio(ours: Rounds, theirs: Rounds) -> str:
-    """The median of the rounds' ratios, with the lowest, the highest, and how many there are."""
-    found = sorted(ours[each] / theirs[each] for each in ours.keys() & theirs.keys() if theirs[each])
-    if not found:
-        return NOT_MEASURED
-    digits = 0 if found[-1] >= 100 else 2
-    middle, low, high = (f"{each:,.{digits}f}" for each in (statistics.median(found), found[0], found[-1]))
-    return f"{middle} ({low} to {high}, {len(found)} round{'s' * (len(found) > 1)})"
-
-
 def table(heads: typing.Iterable[str], rows: typing.Iterable[typing.Iterable[str]]) -> str:
     lines = [f"|{'|'.join(row)}|" for row in [heads, *rows]]
     return "\n".join([lines[0], "|" + "---|" * (lines[0].count("|") - 1), *lines[1:]])
