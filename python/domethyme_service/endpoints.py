@@ -108,7 +108,7 @@ ENDPOINTS = (
                   ALTERNATIVES, CONTINUE_STRAIGHT, WAYPOINTS, *OF_ROUTES),
     osrm_endpoint("nearest", "the nearest points of roads", handlers.places(osrm.nearest), range(1, 2),
                   f"{SNAPPING} + PLACE*K", "Nearest", NUMBER),
-    osrm_endpoint("table", "durations, distances and weights between up to 2,000 places", handlers.places(osrm_tables.table),
+    osrm_endpoint("table", "durations (seconds), distances (metres) and weights between up to 2,000 places", handlers.places(osrm_tables.table),
                   range(1, 2001), f"{SNAPPING} + ROW*M*(1 + L/10000) + SUM*S + (CELL + 10*BYTE)*Z", "Table",
                   FALLBACK_SPEED, FALLBACK_COORDINATE, SCALE_FACTOR, TABLE_ANNOTATIONS, SOURCES, DESTINATIONS),
     osrm_endpoint("trip", "a round trip through 2 to 500 places, in an order of little weight", handlers.places(osrm_trip.trip),
