@@ -137,7 +137,7 @@ def open_sockets(args: argparse.Namespace) -> tuple[list[str], bool]:
         return [listen_tcp(args.host, args.port)], False
     kind, _, path = args.bind.partition(":")
     if kind != "unix" or not path:
-        raise StartupError(f"--bind {args.bind}: other machines ask through nginx, by {NGINX}, and --bind unix:PATH")
+        raise StartupError(f"--bind {args.bind}: the loopback is --host and --port, and others ask through nginx, by {NGINX}, and --bind unix:PATH")
     return [listen_unix(path), listen_unix(f"{path}{PROBE_SUFFIX}")], True
 
 
