@@ -3,6 +3,7 @@
 Trips are (row, (lon, lat), (lon, lat)), and places (lon, lat).
 """
 import itertools
+import math
 from collections.abc import Iterable, Iterator, Sequence
 
 from domethyme.csv_tables import open_input
@@ -39,8 +40,10 @@ def snap_places(roads: RoadIndex, places: Iterable[PlaceOfRow], radius: float, p
     """The points of roads that are nearest to places of a table. Raises ToolError for one that is too far."""
     left = iter(places)
     while batch := list(itertools.islice(left, SNAP_BATCH)):
-        found = roads.nearest_batch([place for _, _, place in batch])
+        found = roads.nearest_within([place for _, _, place in batch], [math.inf] * len(batch))
         for snapped, (row, prefix, (lon, lat)) in zip(found, batch):
+            if snapped is None:
+                raise ToolError(f"{prefix}lon {lon}, {prefix}lat {lat} has no nearest road: there are ferries alone", path, row)
             if snapped.metres > radius:
                 far = f"{snapped.metres:,.0f} m from the nearest road, and --radius is {radius:g} m"
                 raise ToolError(f"{prefix}lon {lon}, {prefix}lat {lat} is {far}", path, row)

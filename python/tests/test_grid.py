@@ -1,6 +1,7 @@
 """Tests of the grid of roads: very many near a place, its cells, and roads over the 180th meridian."""
 import itertools
 import json
+import math
 import random
 
 import numpy as np
@@ -35,7 +36,7 @@ def test_places_between_short_roads(tmp_path, middle, wide, count):
     net = Network([Node(*point) for line in lines for point in line], arcs)
     write_network(Drawn(net, net, False), tmp_path / "net")
     roads, places = RoadIndex(str(tmp_path / "net")), [beside(middle, wide) for _ in range(60)]
-    for place, spot in zip(places, roads.nearest_batch(places), strict=True):
+    for place, spot in zip(places, roads.nearest_within(places, [math.inf] * len(places)), strict=True):
         edges = [point.edge for _, point in itertools.islice(net.by_distance(place, None), 2)]
         assert [each.edge for each in roads.nearest(place, 2)] == edges and spot.edge == edges[0], place
 

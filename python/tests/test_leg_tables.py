@@ -1,5 +1,6 @@
 """Tables between points on roads, made in parts: each part asks once, for whole rows to the same nodes, and its rows are those of
 one part for all."""
+import math
 import subprocess
 
 import numpy as np
@@ -19,7 +20,7 @@ def village(tmp_path_factory):
     roads = RoadIndex(str(folder / "v"))
     places = [(0.0003 * number, 0.00001) for number in range(14)] + [(0.002, 0.0), (0.02, 0.005)]
     with domethyme.prepare(folder / "v.gr", folder / "v.rch", workers=1) as hierarchy:
-        yield hierarchy, roads, list(roads.nearest_batch(places))
+        yield hierarchy, roads, list(roads.nearest_within(places, [math.inf] * len(places)))
 
 
 @pytest.mark.parametrize("cells, most_rows", [(1, 256), (60, 256), (1 << 20, 5), (1 << 20, 1)])

@@ -2,9 +2,11 @@
 import contextlib
 import unittest.mock
 
+import pytest
 from draws import run_tool
 from service_case import ServiceCase
 
+import domethyme
 from domethyme import find_program
 from domethyme_tools import on_roads
 from domethyme_tools.cli import ToolError
@@ -17,6 +19,19 @@ Back,0.0006,0,0.0003,0
 No way,0,0,0.020,0.005
 Nowhere,0.001,0,0.001,0
 """
+
+
+@pytest.mark.parametrize("tool", ["nearest", "table"])
+def test_ferries_alone(tmp_path, tool):
+    """No place is on one, so there is no road for any."""
+    (tmp_path / "nodes.csv").write_text("lon,lat\n0,0\n0.01,0\n")
+    (tmp_path / "arcs.csv").write_text("from,to,seconds,highway\n1,2,600,ferry\n2,1,600,ferry\n")
+    (tmp_path / "trips.csv").write_text("from_lon,from_lat,to_lon,to_lat,lon,lat\n0,0,0.01,0,0,0\n")
+    run_tool("to_network", tmp_path / "nodes.csv", tmp_path / "arcs.csv", tmp_path / "net")
+    domethyme.prepare(tmp_path / "net.gr", tmp_path / "net.rch").close()
+    words = [tmp_path / "trips.csv"] if tool == "nearest" else [tmp_path / "net.rch", tmp_path / "trips.csv", tmp_path / "trips.csv", "-o", tmp_path / "out.csv"]
+    with pytest.raises(ToolError, match="lon 0.0, (from_)?lat 0.0 has no nearest road: there are ferries alone"):
+        run_tool(tool, tmp_path / "net", *words, "--on-roads")
 
 
 class OnRoadsTests(ServiceCase):

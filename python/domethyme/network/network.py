@@ -299,7 +299,7 @@ class Network:
                 raise NoSuchNode(f"place {number} has no road within {limit:g} m{direction}", number)
             if not point.metres <= limit:
                 lon, lat = rows[number].tolist()
-                swapped = abs(lon) <= 90 and any(other.metres <= limit for other in self.roads.nearest_batch([(lat, lon)]))
+                swapped = abs(lon) <= 90 and any(self.roads.nearest_within([(lat, lon)], [limit]))
                 raise too_far("road", number, point.metres, limit, swapped)
             found.append(point)
         return found

@@ -252,12 +252,9 @@ class RoadIndex:
         near = self.arrays.edge_grid.nearest(place, min(count, self.edges), metres, step, within + 1e-6)
         return [edge for away, edge in near if away <= within]
 
-    def nearest_batch(self, places: Sequence[Point]) -> Iterator[SnappedPoint]:
-        """The nearest point of a road to each place, as by `nearest`."""
-        return (found for found in self.nearest_within(places, [math.inf] * len(places)) if found is not None)
-
     def nearest_within(self, places: Sequence[Point], within: Sequence[float], is_any: bool = False) -> Iterator[SnappedPoint | None]:
-        """The same up to so many metres from each place, or None. Those within the grid's first radius are found at once."""
+        """The nearest point of a road to each place, as by `nearest`, up to so many metres from it, or None. Those within the grid's first
+        radius are found at once."""
         self.arrays.file.check_unchanged()
         near = self._snap_nearby(places, self.arrays.edge_grid.initial_radius, 1, is_any)
         for number, (place, metres) in enumerate(zip(places, within, strict=True)):
