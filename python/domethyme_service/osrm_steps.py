@@ -69,6 +69,7 @@ class StepBuilder:
         self.is_on_roundabout, self.is_on_ferry = self.roads.roundabout_rows[self.rows], self.roads.ferry_rows[self.rows]
         self.first_bearings, self.last_bearings = geometry.bearings
         self.starts = geometry.starts
+        self.modes = [mode_json(self.roads, is_ferry) for is_ferry in (False, True)]
         self.is_junction = self._are_junctions()
         self.begins = self._is_first().nonzero()[0]
         self.ends = np.append(self.begins[1:], len(geometry.arcs))
@@ -117,11 +118,14 @@ class StepBuilder:
         before = np.where(self.is_leg_first, 0, self.last_bearings[self.begins - 1]).tolist()
         after = self.first_bearings[self.begins].tolist()
         totals = totals_json(self.geometry.totals(self.begins, self.ends))
-        modes = [mode_json(self.roads, is_ferry) for is_ferry in (False, True)]
-        ways = [modes[is_on] for is_on in self.is_on_ferry[self.begins].tolist()]
+        ways = self.modes_of(self.begins)
         for step in self.is_leg_first.nonzero()[0].tolist():
             passed[step] = f'{intersection_json(locations[step], after[step], "out")}{"," if passed[step] else ""}{passed[step]}'
         return [*map(step_json, self.turns(), locations, before, after, roads, totals, shapes, passed, ways)], roads
+
+    def modes_of(self, arcs: NDArray[np.int64]) -> list[str]:
+        """The members that say how one is on the way on some of the arcs."""
+        return [self.modes[is_on] for is_on in self.is_on_ferry[arcs].tolist()]
 
     def junctions(self) -> Junctions:
         """Those that steps begin at, but the first one of a leg, or pass."""
@@ -233,15 +237,17 @@ def build_steps(geometry: RouteGeometry, format_: str, shown: Texts | None) -> l
     # one look for all texts: of places, of steps, and of junctions
     shapes = shapes_of(points, shown, begins, behind, format_)
     locations = point_texts(points.take(chosen, axis=0), 6).all_rows() if shown is None else shown.rows(chosen)
-    texts, roads, last_bearings = list[str](), list[RoadTexts](), list[int]()
+    texts, roads, last_bearings, last_modes = list[str](), list[RoadTexts](), list[int](), list[str]()
     if len(geometry.arcs):
         passed = builder.intersections(at_junctions, locations[len(begins) :])
         texts, roads = builder.steps(locations[count:], shapes[count:], passed)
-        last_bearings = builder.last_bearings[geometry.first[1:] - 1].tolist()
-    nothing, mode = ("0.0", "0.0" if geometry.roads.has_seconds else "null", "0.0"), mode_json(geometry.roads)
+        lasts = geometry.first[1:] - 1
+        last_bearings, last_modes = builder.last_bearings[lasts].tolist(), builder.modes_of(lasts)
+    nothing, standing = ("0.0", "0.0" if geometry.roads.has_seconds else "null", "0.0"), mode_json(geometry.roads)
     found = []
     for leg, (low, high) in enumerate(itertools.pairwise(bounds)):
-        some, names, before = texts[low:high], roads[low:high], last_bearings[leg] if low < high else 0
+        some, names = texts[low:high], roads[low:high]
+        before, mode = (last_bearings[leg], last_modes[leg]) if some else (0, standing)
         if not some:
             names = [RoadTexts.of("", "", "")]
             crossing = intersection_json(locations[leg], 0, "out")

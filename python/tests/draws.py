@@ -80,7 +80,8 @@ def networks(draw: Any, kinds: Sequence[str] = KINDS, most: int = 8, origins: Se
         if bent and draw(st.integers(0, 5)) == 0:  # (by all points of another way)
             start, end, *_, line = draw(st.sampled_from(bent))[:6]
             start, end, line = (start, end, line) if draw(st.booleans()) else (end, start, line[::-1])
-        texts = way + 1, *(draw(st.sampled_from(some)) for some in (NAMES, REFS, REFS, JUNCTIONS))
+        highway = "ferry" if draw(st.integers(0, 4)) == 0 else HIGHWAYS[(way + 1) % len(HIGHWAYS)]
+        texts = way + 1, *(draw(st.sampled_from(some)) for some in (NAMES, REFS, REFS, JUNCTIONS)), highway
         arcs.append(draw_arc(draw, kind, start, end, line, texts))
         if draw(st.booleans()):
             arcs.append(draw_arc(draw, kind, end, start, line[::-1], texts))
@@ -164,11 +165,10 @@ def write_tables(drawn: Drawn, folder: pathlib.Path) -> None:
         )
     with open(folder / "arcs.csv", "w", newline="") as file:
         rows = csv.writer(file)
-        rows.writerow(("from", "to", "weight", "seconds", "metres", "WKT", "osm", *Arc._fields[7:], "highway", "toll"))
+        rows.writerow(("from", "to", "weight", "seconds", "metres", "WKT", "osm", *Arc._fields[7:], "toll"))
         for arc in arcs:
             line = ", ".join(f"{lon:.7f} {lat:.7f}" for lon, lat in arc.line)
-            highway = HIGHWAYS[arc.way % len(HIGHWAYS)]
-            rows.writerow((names[arc.start], names[arc.end], *arc[2:5], f"LINESTRING ({line})", *arc[6:], highway, "yes" if arc.way % 4 == 1 else ""))
+            rows.writerow((names[arc.start], names[arc.end], *arc[2:5], f"LINESTRING ({line})", *arc[6:], "yes" if arc.way % 4 == 1 else ""))
 
 
 def model_of(prefix: pathlib.Path) -> Network:
@@ -178,7 +178,7 @@ def model_of(prefix: pathlib.Path) -> Network:
     osm = [int(value) if is_there else None for value, is_there in zip(nodes["osm"], nodes["osm"].notna())]
     lines = [tuple((float(lon), float(lat)) for lon, lat in map(str.split, text[12:-1].split(", "))) for text in arcs["WKT"]]
     columns = [arcs[name].tolist() for name in ("from", "to", "weight", "seconds", "metres")]
-    texts = [arcs[name].tolist() for name in ("osm", "name", "ref", "destination", "junction")]
+    texts = [arcs[name].tolist() for name in ("osm", *Arc._fields[7:])]
     return Network(
         map(Node, nodes["lon"].tolist(), nodes["lat"].tolist(), range(len(nodes)), osm), map(Arc, *columns, lines, *texts)
     )

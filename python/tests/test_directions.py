@@ -43,17 +43,21 @@ def test_as_the_model(data: Any) -> None:
     with tempfile.TemporaryDirectory() as folder:
         write_network(made, pathlib.Path(folder) / "net")
         hierarchy = domethyme.Hierarchy(f"{folder}/net.rch", network=f"{folder}/net")
+        options: Any = {"bearings": bearings, "radiuses": radiuses, "approaches": approaches, "snapping": data.draw(st.sampled_from(["default", "any"]))}
         try:
             rows = zip(spots, radiuses, bearings, approaches)
-            points = [made.roads.snap(spot, 1000.0 if radius is None else radius, each, side == "curb") for spot, radius, each, side in rows]
+            points = [
+                made.roads.snap(spot, 1000.0 if radius is None else radius, each, side == "curb", options["snapping"] == "any")
+                for spot, radius, each, side in rows
+            ]
         except Ambiguous:
             return
         if None in points:
             with pytest.raises(domethyme.NoSuchNode) as raised:
-                hierarchy.network.points_on_roads(spots, bearings=bearings, radiuses=radiuses, approaches=approaches)
+                hierarchy.network.points_on_roads(spots, **options)
             assert raised.value.key == points.index(None)
             return
-        snapped = hierarchy.network.points_on_roads(spots, bearings=bearings, radiuses=radiuses, approaches=approaches)
+        snapped = hierarchy.network.points_on_roads(spots, **options)
         try:
             legs = {pair: made.roads.legs(*pair) for pair in itertools.product(points, repeat=2)}
         except Ambiguous:
@@ -68,7 +72,7 @@ def test_as_the_model(data: Any) -> None:
             assert any(abs(metres - each) < 0.01 for each in wanted) if wanted else math.isnan(metres)
         if len(spots) > 1:
             stops = sorted({0, *data.draw(st.sets(st.integers(0, len(spots) - 1))), len(spots) - 1})
-            found = hierarchy.directions(spots, bearings=bearings, radiuses=radiuses, approaches=approaches, waypoints=stops)
+            found = hierarchy.directions(spots, waypoints=stops, **options)
             check_directions(made.roads, found, points, legs, stops)
             check_straight(made.roads, hierarchy.directions(snapped, continue_straight=True), points)
         for setting in SETTINGS:
@@ -86,13 +90,13 @@ def test_points_of_another_network(made: Any, data: Any) -> None:
         write_network(made, pathlib.Path(folder) / "net")
         write_network(made._replace(tables=Network(made.tables.nodes, heavier)), pathlib.Path(folder) / "other")
         hierarchy = domethyme.Hierarchy(f"{folder}/net.rch", network=f"{folder}/net")
-        others = domethyme.Network(f"{folder}/other").points_on_roads(spots, math.inf)
-        own = hierarchy.network.points_on_roads(spots, math.inf)
+        others = domethyme.Network(f"{folder}/other").points_on_roads(spots, math.inf, snapping="any")
+        own = hierarchy.network.points_on_roads(spots, math.inf, snapping="any")
         if any(point.arcs and (point.exits, point.entries) != (mine.exits, mine.entries) for point, mine in zip(others, own, strict=True)):
             with pytest.raises(domethyme.NetworkError, match="is a point on the roads of another network"):
                 hierarchy.table(others)
         else:
-            assert hierarchy.table(others).tolist() == hierarchy.table(spots, radius=math.inf).tolist()
+            assert hierarchy.table(others).tolist() == hierarchy.table(spots, radius=math.inf, snapping="any").tolist()
         with pytest.raises(ValueError, match="have no bearings, radiuses or approaches"):
             hierarchy.directions(own, bearings=[None] * len(spots))
 
@@ -154,9 +158,9 @@ def test_alternatives(data: Any) -> None:
 
 def check_all(net: Network, arrays: Any, spots: list[Any], found: list[Any]) -> None:
     """Of ways that fork none is missing, and they come in order."""
-    points = [net.snap(spot, 1000.0) for spot in spots]
-    assert points[0] and points[1]
     with contextlib.suppress(Ambiguous):
+        points = [net.snap(spot, 1000.0) for spot in spots]
+        assert points[0] and points[1]
         wanted = [[(*net.arcs[arc][:2], weight) for arc, *_, weight in way] for way in every_alternative(net, points[0], points[1])]
         shown = [zip(arrays.arc_from[leg.arcs].tolist(), arrays.arc_to[leg.arcs].tolist(), leg.weights.tolist()) for leg in found]
         assert [*map(list, shown)] == wanted

@@ -65,7 +65,7 @@ def requests(draw: Any, drawn: Drawn, service: str) -> tuple[Request, set[str]]:
     count, is_wrong = draw(st.sampled_from(COUNTS[service])), draw(st.integers(0, 5)) == 0
     where = draw(places(drawn.roads, count))
     texts = texts_of(service, count, directions(drawn.roads), is_wrong)
-    names = ["bearings", "approaches", "steps", "overview", "annotations", "waypoints", *(["radiuses", "timestamps"] if service == "match" else [])]
+    names = ["bearings", "approaches", "steps", "overview", "annotations", "waypoints", "snapping", *(["radiuses", "timestamps"] if service == "match" else [])]
     often = [name for name in names for _ in range(4) if name in texts]
     chosen = draw(st.lists(st.sampled_from([*sorted(texts), *often]), max_size=6))
     rows = {name: draw(texts[name]) for name in dict.fromkeys(chosen)}
@@ -191,7 +191,8 @@ def test_tiles(data: Any) -> None:
     for edge in made.tables.edges:
         arc = made.tables.arcs[min(edge.arcs)]
         line = [(round((lon / 360 + 0.5) * wide), round((0.5 - math.asinh(math.tan(math.radians(lat))) / math.tau) * wide)) for lon, lat in edge.line]
-        wanted += [(arc.way % len(HIGHWAYS), arc.name, *sorted(step)) for step in itertools.pairwise(line)]
+        kind = (*HIGHWAYS, "ferry").index(arc.highway)
+        wanted += [(min(kind, len(HIGHWAYS) - 1), arc.name, *sorted(step)) for step in itertools.pairwise(line)]
     columns, rows = (sorted(place[side] // 1024 for step in wanted for place in step[2:]) for side in (0, 1))
     assume((columns[-1] - columns[0]) * (rows[-1] - rows[0]) < 40)
     found = []

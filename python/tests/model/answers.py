@@ -62,7 +62,8 @@ def waypoints(network: Network, request: Request, **members: Sequence[SnappedPoi
 
 def places_on_roads(network: Network, request: Request) -> list[SnappedPoint]:
     """The points of roads that are nearest to the places. Raises Refused where one has none."""
-    found = [network.snap(*each) for each in zip(request.places, request.radiuses(), request.bearings(), request.approaches())]
+    rows = zip(request.places, request.radiuses(), request.bearings(), request.approaches())
+    found = [network.snap(*each, request.is_any()) for each in rows]
     known = [point for point in found if point is not None]
     if len(known) < len(found):
         raise Refused("NoSegment")
@@ -232,7 +233,7 @@ def annotation(network: Network, leg: Sequence[Part], names: Sequence[str], tota
 def nearest(network: Network, request: Request) -> Any:
     """The nearest points of roads, one of each edge, the nearest first, with the ids of the ends of its edge's first arc."""
     (place,), (radius,), (bearings,), (is_curb,) = request.places, request.radiuses(), request.bearings(), request.approaches()
-    near = itertools.takewhile(lambda row: row[0] <= radius, network.by_distance(place, bearings, is_curb))
+    near = itertools.takewhile(lambda row: row[0] <= radius, network.by_distance(place, bearings, is_curb, request.is_any()))
     points = [point for _, point in near if point is not None][: int(request.value("number", "1"))]
     if not points:
         raise Refused("NoSegment")

@@ -91,7 +91,7 @@ def apart(request: Request, one: int, other: int) -> float:
 def states(network: Network, request: Request, number: int) -> list[SnappedPoint]:
     """The nearest points of the nearest roads, one for each direction."""
     reach, bearings, found = REACH * deviations(request)[number], request.bearings()[number], list[SnappedPoint]()
-    rows = [(metres, point) for metres, point in network.by_distance(request.places[number], None) if metres < reach + 1]
+    rows = [(metres, point) for metres, point in network.by_distance(request.places[number], None, is_any=True) if metres < reach + 1]
     if any(near(metres, reach) for metres, _ in rows) or len(rows) > ROADS and near(rows[ROADS - 1][0], rows[ROADS][0]):
         raise Ambiguous
     for metres, point in rows[:ROADS]:

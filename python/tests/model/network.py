@@ -44,6 +44,7 @@ class Arc(NamedTuple):
     ref: str = ""
     destination: str = ""
     junction: str = ""
+    highway: str = ""
 
 
 class Edge(NamedTuple):
@@ -83,6 +84,9 @@ class Network:
             known.setdefault((arc.way, line), Edge(line, {})).arcs[number] = line == arc.line
         self.edges = list(known.values())
         self.edge_of = {arc: edge for edge, each in enumerate(self.edges) for arc in each.arcs}
+
+    def is_ferry(self, edge: int) -> bool:
+        return all(self.arcs[arc].highway == "ferry" for arc in self.edges[edge].arcs)
 
     def __repr__(self) -> str:
         return f"Network({self.nodes}, {self.arcs}, {set(self.forbidden)})"
@@ -159,12 +163,12 @@ class Network:
     # Places on roads
 
     def snap(
-        self, place: Point, radius: float, bearings: tuple[int, int] | None = None, is_curb: bool = False
+        self, place: Point, radius: float, bearings: tuple[int, int] | None = None, is_curb: bool = False, is_any: bool = False
     ) -> SnappedPoint | None:
-        """The nearest point of a road within so many metres, of a road of that direction, and of equally near roads of the first
-        in the file; None for none. Raises Ambiguous where rounding decides which."""
+        """The nearest point of a road within so many metres, of a road of that direction, of a ferry only with `is_any`, and of equally near
+        roads of the first in the file; None for none. Raises Ambiguous where rounding decides which."""
         found: SnappedPoint | None = None
-        for metres, point in self.by_distance(place, bearings, is_curb):
+        for metres, point in self.by_distance(place, bearings, is_curb, is_any):
             if metres > (radius if found is None else found.metres) + METRES_TOLERANCE:
                 break
             if metres > radius - METRES_TOLERANCE or found is not None and is_other_by_rounding(metres, found.metres):
@@ -173,12 +177,14 @@ class Network:
         return found
 
     def by_distance(
-        self, place: Point, bearings: tuple[int, int] | None, is_curb: bool = False
+        self, place: Point, bearings: tuple[int, int] | None, is_curb: bool = False, is_any: bool = False
     ) -> Iterator[tuple[float, SnappedPoint | None]]:
         """For each edge, the nearest first and equally near ones as in the file, the metres and the nearest point, None where it
-        has not that direction."""
+        has not that direction; of ferries only with `is_any`."""
         rows = []
         for number, edge in enumerate(self.edges):
+            if not is_any and self.is_ferry(number):
+                continue
             ways = [nearest_on_segment(place, *step) for step in zip(edge.line, edge.line[1:])]
             least = min(ways)[0]
             near = [step for step, (away, _) in enumerate(ways) if away <= least + METRES_TOLERANCE]

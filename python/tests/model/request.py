@@ -37,6 +37,10 @@ class Request(NamedTuple):
         """Whether each place has to be at the side of the road on which vehicles are."""
         return [word == "curb" for word in self.words("approaches")]
 
+    def is_any(self) -> bool:
+        """Whether places may be on ferries too."""
+        return self.value("snapping") == "any"
+
     def annotations(self) -> list[str]:
         text = self.value("annotations", "false")
         return [] if text == "false" else [*ANNOTATIONS] if text == "true" else text.split(",")

@@ -1,4 +1,4 @@
-"""The steps of a leg: one begins where the name changes, at a turn above 45 degrees at a junction, and at a roundabout."""
+"""The steps of a leg: one begins where the name or the mode changes, at a turn above 45 degrees at a junction, and at a roundabout."""
 import itertools
 from collections.abc import Callable, Sequence
 from typing import Any
@@ -22,6 +22,10 @@ def is_along(network: Network, part: Part) -> bool:
 
 def is_round(arc: Arc) -> bool:
     return arc.junction in ("roundabout", "circular")
+
+
+def mode(arc: Arc) -> str:
+    return "ferry" if arc.highway == "ferry" else "driving"
 
 
 def directions(lines: Sequence[list[Point]], step: int) -> list[float]:
@@ -92,7 +96,7 @@ def begins_of(network: Network, leg: Sequence[Part], turns: Sequence[float]) -> 
         is_turn = abs(turns[number - 1]) > 45 and edges_at(network, arc.start) >= 3
         if leg[number][1] != 0:  # (at a point within a road it goes on, or turns round)
             is_turn = is_along(network, leg[number]) != is_along(network, leg[number - 1])
-        is_new = before.name != arc.name or is_turn
+        is_new = before.name != arc.name or mode(before) != mode(arc) or is_turn
         is_free = not is_round(before) or number - 1 < free_from  # (a step on a roundabout goes on behind it)
         if not is_round(before) if is_round(arc) else is_new and is_free:
             found.append(number)
@@ -129,15 +133,15 @@ def steps(
             if number and (number == begin or is_junction):
                 both = (last[number - 1] + 180) % 360, first[number]
                 passed.append(intersection(network, leg, number, lines[number][0], both))
-        found.append(step(turn, sides, arcs[named], figures(network, leg[begin:stop]), line, form, passed))
+        found.append(step(turn, sides, arcs[named], mode(arcs[begin]), figures(network, leg[begin:stop]), line, form, passed))
     nothing = figures(network, [])
     if not leg:
         passed = [Intersection(near(start.place), [(0, True)], None, 0)]
-        found = [step({"type": "depart"}, (0, 0), NOWHERE, nothing, [start.place] * 2, form, passed)]
+        found = [step({"type": "depart"}, (0, 0), NOWHERE, mode(NOWHERE), nothing, [start.place] * 2, form, passed)]
     sides, name = (Direction(last[-1]) if leg else 0, 0), NOWHERE._replace(name=found[-1]["name"])
     back = (last[-1] if leg else 0) + 180
     passed = [Intersection(near(end.place), [(back, True)], back, None)]
-    found.append(step({"type": "arrive"}, sides, name, nothing, [end.place] * 2, form, passed))
+    found.append(step({"type": "arrive"}, sides, name, mode(arcs[-1] if leg else NOWHERE), nothing, [end.place] * 2, form, passed))
     return [{**each, "driving_side": "left" if network.is_left else "right"} for each in found]
 
 
@@ -165,14 +169,14 @@ def turn_at(network: Network, numbers: Sequence[int], named: int, angle: float) 
 
 
 def step(
-    turn: dict[str, Any], ways: tuple[Any, Any], named: Arc, figures: dict[str, Any], line: Sequence[Point], form: str,
+    turn: dict[str, Any], ways: tuple[Any, Any], named: Arc, mode: str, figures: dict[str, Any], line: Sequence[Point], form: str,
     passed: Sequence[Intersection]
 ) -> dict[str, Any]:
-    """A step, which has the name, the refs and the destinations of an arc, and intersections."""
+    """A step, which has the name, the refs and the destinations of an arc, a mode, and intersections."""
     place = near(line[0])
     texts = {"ref": "; ".join(map(str.strip, named.ref.split(";")))} if named.ref else {}
     texts |= {"destinations": ", ".join(map(str.strip, named.destination.split(";")))} if named.destination else {}
     return {
         "maneuver": {**turn, "location": place, "bearing_before": ways[0], "bearing_after": ways[1]}, "name": named.name,
-        "mode": "driving", **figures, "geometry": Line(line, form), **texts, "intersections": [*passed],
+        "mode": mode, **figures, "geometry": Line(line, form), **texts, "intersections": [*passed],
     }
