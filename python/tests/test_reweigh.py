@@ -9,7 +9,7 @@ from typing import Any, NamedTuple
 import numpy as np
 import pandas
 import pytest
-from draws import drawn, model_of, run_tool
+from draws import Drawn, drawn, model_of, run_tool
 from hypothesis import given
 from hypothesis import strategies as st
 from model.network import Network
@@ -157,7 +157,8 @@ def close_ways(data: Any, folder: pathlib.Path) -> Network | None:
     drawn_map = data.draw(maps())
     convert(drawn_map.text(), folder, "before")
     roads, closed = model_of(folder / "before"), data.draw(st.sets(st.integers(1, len(drawn_map.ways))))
-    wanted = without(roads, lambda arc: arc.way in closed)
+    found = without(Drawn(roads, roads, False), lambda arc: arc.way in closed)
+    wanted = None if found is None else found.roads
     if wanted is not None:
         (folder / "speeds.csv").write_text("way,kmh\n" + "".join(f"{way},0\n" for way in closed))
         run_tool("reweigh", folder / "before", folder / "speeds.csv", folder / "after")

@@ -5,11 +5,11 @@ import pathlib
 import pickle
 import re
 import tempfile
-from collections.abc import Callable
+from collections.abc import Callable, Collection, Sequence
 from typing import Any
 
 import pytest
-from draws import ORIGINS, Drawn, drawn, networks, places, run_tool, write_network
+from draws import ORIGINS, Drawn, drawn, networks, places, run_tool, split, write_network
 from hypothesis import given
 from hypothesis import strategies as st
 from model.network import Ambiguous, Arc, Network
@@ -28,58 +28,78 @@ from domethyme_service.metrics import SharedMetrics
 from domethyme_service.wsgi import Options, Service
 
 
-def is_toll(arc: Any) -> bool:
-    return arc.way % 4 == 1
+# Whether an arc is of a class.
+CLASSES: dict[str, Callable[[Arc], bool]] = {"toll": lambda arc: arc.way % 4 == 1, "ferry": lambda arc: arc.highway == "ferry"}
 
 
-def without(roads: Network, is_left_out: Callable[[Arc], bool]) -> Network | None:
-    """The network of the other roads between nodes of the largest set that can all reach one another; None if there are several."""
-    arcs = [arc for arc in roads.arcs if not is_left_out(arc)]
-    plain = Network(roads.nodes, arcs, is_left=roads.is_left)
-    reached = [set(plain.lengths({node: 0})) for node in range(len(roads.nodes))]
-    sets = {frozenset(other for other in reached[node] if node in reached[other]) for node in range(len(roads.nodes))}
+def without(made: Drawn, is_left_out: Callable[[Arc], bool]) -> Drawn | None:
+    """The network of the other arcs between nodes of the largest set that can all reach one another, and to and from those where routes
+    end and begin beside it; None if there are several, or no arc is left."""
+    roads, tables = made.roads, made.tables
+    numbered = Network(roads.nodes, [arc._replace(ref=str(row)) for row, arc in enumerate(roads.arcs)], roads.forbidden)
+    rows = [int(arc.ref) for arc in split(numbered).arcs] if roads.forbidden else range(len(roads.arcs))
+    arcs = [row for row, arc in enumerate(tables.arcs) if not is_left_out(arc)]
+    plain = Network(tables.nodes, [tables.arcs[row] for row in arcs])
+    reached = [set(plain.lengths({node: 0})) for node in range(len(plain.nodes))]
+    sets = {frozenset(other for other in reached[node] if node in reached[other]) for node in range(len(plain.nodes))}
     most = max(map(len, sets))
     if [len(each) for each in sets].count(most) > 1:
         return None
     largest = next(each for each in sets if len(each) == most)
-    kept = [arc for arc in arcs if arc.start in largest and arc.end in largest]
-    joined = {node for arc in kept for node in arc[:2]}
-    nodes = [node if number in joined else node._replace(ends="no") for number, node in enumerate(roads.nodes)]
-    found = Network(nodes, kept, is_left=roads.is_left)
-    vars(found).update(unit=roads.unit, has_seconds=roads.has_seconds)
-    return found if found.arcs else None
+    ends = {arc.end for arc in plain.arcs if arc.start in largest and tables.nodes[arc.end].ends == "to"}
+    starts = {arc.start for arc in plain.arcs if arc.end in largest and tables.nodes[arc.start].ends == "from"}
+    kept = [row for row in arcs if tables.arcs[row].start in largest | starts and tables.arcs[row].end in largest | ends]
+    few = with_arcs(tables, kept)
+    # (an arc follows on another if it does so at one of the nodes that the junction is split into)
+    following = {(rows[one], rows[other]) for one in kept for other in kept if tables.arcs[one].end == tables.arcs[other].start}
+    numbers = sorted({rows[row] for row in kept})
+    forbidden = {
+        (one, other) for one, first in enumerate(numbers) for other, second in enumerate(numbers)
+        if roads.arcs[first].end == roads.arcs[second].start and (first, second) not in following
+    }
+    return Drawn(with_arcs(roads, numbers, forbidden), few, made.has_keys) if kept else None
+
+
+def with_arcs(network: Network, rows: Sequence[int], forbidden: Collection[tuple[int, int]] = ()) -> Network:
+    """The network with some of its arcs. At a node without any no route begins or ends."""
+    arcs = [network.arcs[row] for row in rows]
+    joined = {node for arc in arcs for node in arc[:2]}
+    nodes = [node if number in joined else node._replace(ends="no") for number, node in enumerate(network.nodes)]
+    found = Network(nodes, arcs, forbidden, network.is_left)
+    vars(found).update(unit=network.unit, has_seconds=network.has_seconds)
+    return found
 
 
 @drawn(60)
 @given(st.data())
 def test_as_the_model(data: Any) -> None:
-    made = data.draw(networks())
-    wanted = None if made.roads.forbidden else without(made.roads, is_toll)
+    made, name = data.draw(networks()), data.draw(st.sampled_from(sorted(CLASSES)))
+    wanted = without(made, CLASSES[name])
     if wanted is None:
         return
     with tempfile.TemporaryDirectory() as folder:
         prefix = pathlib.Path(folder) / "net"
         write_network(made, prefix)
-        said = run_tool("without", prefix, "toll", f"{prefix}.toll.gr")[1]
-        assert said.endswith(f"{len(wanted.arcs)} of {len(made.roads.arcs)} arcs\n")
-        domethyme.prepare(f"{prefix}.toll.gr", f"{prefix}.toll.rch", workers=0).close()
-        service = serve(prefix, {frozenset(["toll"]): f"{prefix}.toll.rch"})
+        said = run_tool("without", prefix, name, f"{prefix}.few.gr")[1]
+        assert said.endswith(f"{len(wanted.tables.arcs)} of {len(made.tables.arcs)} arcs\n")
+        domethyme.prepare(f"{prefix}.few.gr", f"{prefix}.few.rch", workers=0).close()
+        service = serve(prefix, {frozenset([name]): f"{prefix}.few.rch"})
         for _ in range(4):
             request, codes = data.draw(requests(made, data.draw(st.sampled_from(["route", "nearest", "table", "trip", "match"]))))
             if "exclude" not in request.query and not codes:
                 # (junctions, at which steps begin, are those of all roads)
-                query = {name: text for name, text in request.query.items() if name != "steps"} | {"exclude": "toll"}
-                check(Drawn(wanted, wanted, made.has_keys), service, request._replace(query=query), codes)
+                query = {key: text for key, text in request.query.items() if key != "steps"} | {"exclude": name}
+                check(wanted, service, request._replace(query=query), codes)
                 check(made, service, request, codes)
-        network = domethyme.Network(prefix, exclude=["toll"])
-        hierarchy = domethyme.Hierarchy(f"{prefix}.toll.rch", network=network)
-        assert pickle.loads(pickle.dumps(network)).exclude == {"toll"} and hierarchy.network is network
-        check_nearest(hierarchy, wanted, made.roads.nodes[0].place, data.draw(st.sampled_from(["from", "to"])))
+        network = domethyme.Network(prefix, exclude=[name])
+        hierarchy = domethyme.Hierarchy(f"{prefix}.few.rch", network=network)
+        assert pickle.loads(pickle.dumps(network)).exclude == {name} and hierarchy.network is network
+        check_nearest(hierarchy, wanted.tables, made.roads.nodes[0].place, data.draw(st.sampled_from(["from", "to"])))
         point = network.points_on_roads(made.roads.nodes[0].place, radius=1e8)[0]
         with contextlib.suppress(Ambiguous):
-            assert point.metres <= min(metres for metres, _ in wanted.by_distance(made.roads.nodes[0].place, None)) + 0.01
-        for path, other in ((f"{prefix}.rch", network), (f"{prefix}.toll.rch", str(prefix))):
-            if len(wanted.arcs) < len(made.roads.arcs):
+            assert point.metres <= min(metres for metres, _ in wanted.roads.by_distance(made.roads.nodes[0].place, None)) + 0.01
+        for path, other in ((f"{prefix}.rch", network), (f"{prefix}.few.rch", str(prefix))):
+            if len(wanted.tables.arcs) < len(made.tables.arcs):
                 differs(made, wanted, path, other)
 
 
@@ -87,23 +107,23 @@ def test_as_the_model(data: Any) -> None:
 @given(st.data())
 def test_isochrones(data: Any) -> None:
     """Neither roads that are left out nor nodes that have no others are any that aren't reached."""
-    made = data.draw(networks(["distance"], origins=[ORIGINS[0]]))
-    wanted = None if made.roads.forbidden else without(made.roads, is_toll)
+    made, name = data.draw(networks(["distance"], origins=[ORIGINS[0]])), data.draw(st.sampled_from(sorted(CLASSES)))
+    wanted = without(made, CLASSES[name])
     if wanted is None:
         return
     with tempfile.TemporaryDirectory() as folder:
         prefix = pathlib.Path(folder) / "net"
         write_network(made, prefix)
-        run_tool("without", prefix, "toll", f"{prefix}.toll.gr")
-        domethyme.prepare(f"{prefix}.toll.gr", f"{prefix}.toll.rch", workers=0).close()
-        service = serve(prefix, {frozenset(["toll"]): f"{prefix}.toll.rch"})
-        query = {"contours_meters": "300,700,2000", "polygons": "true", "exclude": "toll"}
-        check(Drawn(wanted, wanted, False), service, Request("isochrone", data.draw(places(wanted, 1)), query), set())
+        run_tool("without", prefix, name, f"{prefix}.few.gr")
+        domethyme.prepare(f"{prefix}.few.gr", f"{prefix}.few.rch", workers=0).close()
+        service = serve(prefix, {frozenset([name]): f"{prefix}.few.rch"})
+        query = {"contours_meters": "300,700,2000", "polygons": "true", "exclude": name}
+        check(wanted, service, Request("isochrone", data.draw(places(wanted.roads, 1)), query), set())
 
 
-def differs(made: Drawn, wanted: Network, path: str, network: Any) -> None:
+def differs(made: Drawn, wanted: Drawn, path: str, network: Any) -> None:
     """The hierarchy of one is refused with the other, if any length differs: an arc that is longer than a way around it may be missing."""
-    lengths = [[net.lengths({node: 0}) for node in range(len(net.nodes))] for net in (made.roads, wanted)]
+    lengths = [[net.lengths({node: 0}) for node in range(len(net.nodes))] for net in (made.tables, wanted.tables)]
     if lengths[0] != lengths[1]:
         with pytest.raises(domethyme.WrongHierarchy):
             domethyme.Hierarchy(path, network=network)
