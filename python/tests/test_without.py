@@ -95,9 +95,9 @@ def test_as_the_model(data: Any) -> None:
         hierarchy = domethyme.Hierarchy(f"{prefix}.few.rch", network=network)
         assert pickle.loads(pickle.dumps(network)).exclude == {name} and hierarchy.network is network
         check_nearest(hierarchy, wanted.tables, made.roads.nodes[0].place, data.draw(st.sampled_from(["from", "to"])))
-        point = network.points_on_roads(made.roads.nodes[0].place, radius=1e8)[0]
+        point = network.points_on_roads(made.roads.nodes[0].place, radius=1e8, snapping="any")[0]
         with contextlib.suppress(Ambiguous):
-            assert point.metres <= min(metres for metres, _ in wanted.roads.by_distance(made.roads.nodes[0].place, None)) + 0.01
+            assert point.metres <= min(metres for metres, _ in wanted.roads.by_distance(made.roads.nodes[0].place, None, is_any=True)) + 0.01
         for path, other in ((f"{prefix}.rch", network), (f"{prefix}.few.rch", str(prefix))):
             if len(wanted.tables.arcs) < len(made.tables.arcs):
                 differs(made, wanted, path, other)
