@@ -77,7 +77,7 @@ class Answer(NamedTuple):
 @dataclasses.dataclass(eq=False)
 class Connection:
     """A socket, the address of its other end, and until when it may wait. Once its request was read: that, whose it is, and whether it is
-    a long one. Once it is answered: when that began, WSGI's environ, the answer, and when its next block may be written."""
+    a long one, and when that was. Once it is answered: WSGI's environ, the answer, and when its next block may be written."""
 
     client: socket.socket
     address: Any
@@ -269,7 +269,8 @@ class Worker(SyncWorker):  # type: ignore[misc] # (gunicorn has no types)
             return self.reject(connection, malformed())
         # (as nginx does: gunicorn takes SCRIPT_NAME, and X_Y for X-Y)
         request.headers = [(name, value) for name, value in request.headers if "_" not in name]
-        connection.request, connection.deadline = request, time.monotonic() + SLOT_SECONDS
+        connection.request, connection.started = request, time.monotonic()
+        connection.deadline = connection.started + SLOT_SECONDS
         connection.owner = Client() if self.is_probe else client_of(connection.address, request.headers)
         self.serve_or_queue(connection)
 
@@ -331,7 +332,7 @@ class Worker(SyncWorker):  # type: ignore[misc] # (gunicorn has no types)
         if connection.environ:
             response = wsgi.Response(connection.request, sender, self.cfg)
         else:
-            local, connection.started = self.sockets[0].getsockname(), time.monotonic()
+            local = self.sockets[0].getsockname()
             response, connection.environ = wsgi.create(connection.request, sender, connection.address, local, self.cfg)
         response.force_close()
         connection.environ["domethyme.has_slot"] = connection.is_long
@@ -381,7 +382,8 @@ class Worker(SyncWorker):  # type: ignore[misc] # (gunicorn has no types)
 
     def reject(self, connection: Connection, error: RequestError) -> None:
         """Sends an error in place of an answer, discards what has arrived, and closes."""
-        self.row.count("other", error.status, 0.0)
+        connection.environ["domethyme.error"] = error
+        self.record(connection, None, error.status)
         discard(connection.client)
         send_error(connection.client, error)
         connection.client.close() if connection.request is None else self.linger(connection)
@@ -396,24 +398,26 @@ class Worker(SyncWorker):  # type: ignore[misc] # (gunicorn has no types)
         except OSError:
             connection.client.close()
 
-    def record(self, connection: Connection, response: Any) -> None:
-        """Counts and logs an answer that was written, or broken off."""
-        environ, seconds = connection.environ, time.monotonic() - connection.started
-        endpoint, status = environ.get("domethyme.endpoint", "other"), 500
+    def record(self, connection: Connection, response: Any, status: int = 500) -> None:
+        """Counts and logs an answer that was written, or broken off, or an error of this status in its place."""
+        environ, request = connection.environ, connection.request
+        seconds = 0.0 if request is None else time.monotonic() - connection.started
+        endpoint = environ.get("domethyme.endpoint", "other")
         if response is not None:
             status = response.status_code
-            self.log.access(response, connection.request, environ, datetime.timedelta(seconds=seconds))
+            self.log.access(response, request, environ, datetime.timedelta(seconds=seconds))
         self.row.count(endpoint, status, seconds)
         if not access_log.isEnabledFor(logging.INFO):
             return
         now = datetime.datetime.now(datetime.timezone.utc).isoformat(timespec="milliseconds").replace("+00:00", "Z")
-        line = {"time": now, "method": environ.get("REQUEST_METHOD"), "endpoint": endpoint, "status": status}
+        line = {"time": now, "method": request and request.method, "endpoint": endpoint, "status": status}
         line |= {"bytes": response.sent if response is not None else 0, "milliseconds": round(1000 * seconds, 3)}
         error: RequestError | None = environ.get("domethyme.error")
         if error is not None:
             line["error"] = error.code
         if self.log_places:
-            line |= {"path": environ.get("RAW_URI"), "remote": environ.get("REMOTE_ADDR") or environ.get("HTTP_X_REAL_IP")}
+            is_tcp, headers = isinstance(connection.address, tuple), [] if request is None else request.headers
+            line |= {"path": request and request.uri, "remote": connection.address[0] if is_tcp else dict(headers).get("X-REAL-IP")}
             line |= {} if error is None else {"message": error.message}
         access_log.info(json.dumps(line))
 

@@ -1,6 +1,8 @@
 """What requests cost, by counts; who gets slots, and what a worker does with requests that wait, by a clock of the test's own."""
 import contextlib
+import functools
 import itertools
+import json
 import math
 import os
 import random
@@ -257,6 +259,24 @@ def test_the_queue_is_bounded():
     with case.clock():
         assert not case.worker.take_turn()
     assert (case.worker.queue, case.worker.row.requests_waiting, len(case.refused)) == ([], 0, 300)
+
+
+def test_a_request_that_is_refused_is_counted_and_logged():
+    """By its endpoint if it has waited for a slot, and with the time that it has waited; and one that can't be read."""
+    case, (client, other) = Waiting(0.1), socket.socketpair()
+    case.worker.epoll, case.worker.reject = mock.Mock(), functools.partial(worker.Worker.reject, case.worker)
+    with case.clock(), contextlib.closing(client), contextlib.closing(other), mock.patch.object(worker, "access_log") as log:
+        waits, malformed = case.connection(), worker.Connection(client, ("127.0.0.1", 1), 0.0)
+        waits.client, waits.environ["domethyme.endpoint"] = client.dup(), "/table"
+        case.worker.queue.append(waits)
+        case.now = worker.SLOT_SECONDS + 0.1
+        case.worker.tick()
+        case.worker.read_request(malformed, worker.HeadState.MALFORMED)
+    lines = [json.loads(call.args[0]) for call in log.info.call_args_list]
+    shown = [tuple(line[name] for name in ("method", "endpoint", "status", "milliseconds", "error")) for line in lines]
+    assert shown == [("GET", "/table", 503, 5100.0, "Overloaded"), (None, "other", 400, 0.0, "InvalidUrl")]
+    text = case.worker.app.metrics.text(1)
+    assert 'requests_total{endpoint="/table",status="503"} 1' in text and 'request_seconds_sum{endpoint="/table"} 5.1' in text
 
 
 def test_a_batch_frees_its_slot_between_blocks():
