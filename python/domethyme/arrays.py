@@ -1,5 +1,5 @@
 """Arguments as arrays, and pandas' objects in and out, where pandas is there. Needs numpy."""
-from collections.abc import Hashable, Iterable
+from collections.abc import Hashable, Iterable, Sequence
 from typing import Any
 
 import numpy as np
@@ -15,6 +15,8 @@ Numbers = NDArray[np.int64]
 OF_TABLE = "table(sources, targets) takes places"
 OF_PLACES = {"sources": OF_TABLE, "targets": OF_TABLE, "pairs": "directions(places) takes places, and nearest(lon, lat) finds nodes"}
 COLUMNS = (("from_node", "to_node"), ("from", "to"), ("source", "target"))
+# Those of keys, where there are some: the tools write them beside numbers of nodes from 1.
+COLUMNS_OF_KEYS = (("from_key", "to_key"), *COLUMNS)
 
 
 def whole_numbers(name: str, values: "ArrayLike | list[Hashable]", low: int, high: int) -> Numbers:
@@ -34,9 +36,9 @@ def whole_numbers(name: str, values: "ArrayLike | list[Hashable]", low: int, hig
 
 
 def pairs_of(pairs: Any, keys: Keys | None, nodes: int) -> Numbers:
-    """Rows (from, to), an array, a list or a frame with columns of COLUMNS, as an array of shape (n, 2) of nodes from 0.
+    """Rows (from, to), an array, a list or a frame with columns of COLUMNS, or with keys of COLUMNS_OF_KEYS, as an array of shape (n, 2) of nodes from 0.
     Raises NoSuchNode, with the row, and ValueError."""
-    columns = columns_of(pairs)
+    columns = columns_of(pairs, COLUMNS if keys is None else COLUMNS_OF_KEYS)
     if keys is not None:
         firsts, seconds = columns if columns is not None else split(pairs)
         starts = keys.nodes(firsts)
@@ -55,11 +57,11 @@ def pairs_of(pairs: Any, keys: Keys | None, nodes: int) -> Numbers:
     return found
 
 
-def columns_of(pairs: Any) -> list[Any] | None:
-    """The two columns of a frame of pandas, None for anything else."""
+def columns_of(pairs: Any, known: Sequence[tuple[str, str]]) -> list[Any] | None:
+    """The two columns of a frame of pandas, by their known names, None for anything else."""
     if not is_pandas(pairs) or not hasattr(pairs, "columns"):
         return None
-    for names in COLUMNS:
+    for names in known:
         if all(name in pairs.columns for name in names):
             return [pairs[name].to_numpy() for name in names]
     found = ", ".join(map(repr, pairs.columns))

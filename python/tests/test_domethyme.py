@@ -305,6 +305,8 @@ print(domethyme.Hierarchy("--help").length(0, 2))
                 with self.assertRaisesRegex(ValueError, f"columns from and to, or source and target, and .*{says}"):
                     hierarchy.lengths(wrong)
             self.assertEqual(hierarchy.lengths(pd.DataFrame({"o": ["a"], "d": ["c"]}).to_numpy()).tolist(), [7])
+            of_tool = pd.DataFrame({"from_node": ["b"], "to_node": ["a"], "from_key": ["a"], "to_key": ["c"]})
+            self.assertEqual(hierarchy.lengths(of_tool).tolist(), [7])
 
     def test_the_recipe_of_the_page(self):
         """The example of docs/PYTHON.md prints what it says."""
