@@ -26,13 +26,15 @@ def from_osm(
               ignore_turn_restrictions, keep_islands, at_least, tables, attribution
 
     Time: a country of 70 million points of roads takes minutes for the network, and some for the hierarchy (docs/MAPS.md). Needs scipy.
-    Raises MapError for the map or the profile, ValueError for options, and what `prepare` raises.
+    Raises MapError for the map or the profile, ValueError for options and a folder, and what `prepare` raises.
     """
     for name in ("numpy", "scipy"):
         need(name)
     from .maps import conversion, vehicle_profile
 
     names = os.fspath(out)
+    if not os.path.basename(names) or os.path.isdir(names):
+        raise ValueError(f"out is a prefix of files, as {os.path.join(names, 'map')}, and {names!r} is a folder, or empty")
     chosen, rules = conversion.options_of(options), vehicle_profile.read_profile(os.fspath(profile))
     with reporting(progress) as on_progress:
         conversion.write_network(path, names, rules, chosen, on_progress)

@@ -339,6 +339,7 @@ class FramesTests(ToolCase):
         assert hierarchy.directions(frame) == hierarchy.directions(places) == hierarchy.directions(np.array(places))
         for wrong, says in (
             (places[:1], "two places or more"), ([(1, 2, 3)], "rows (lon, lat)"), (frame.rename(columns={"lon": "x"}), "columns lon and lat"),
+            (frame.assign(lon=pandas.array([9.5, None, 9.5], "Float64")), "some are missing"),
             ([], "a place or more"), ([(200, 0)] * 2, "lon has to be from -180"), ([places[0], (0.0, 80.0)], "no road within 1000 m"),
         ):
             with pytest.raises(ValueError, match=re.escape(says)):

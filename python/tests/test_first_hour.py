@@ -31,9 +31,13 @@ def test_a_map_in_one_call(village):
         assert fourth.path == third.path
         assert again.keys is None and again.network.prefix == str(out)
         assert again.route(0, 5).nodes == third.route(0, 5).nodes == hierarchy.route(0, 5).nodes
-    for words, says in [({"profile": "tank"}, "no profile tank"), ({"speed": 3}, "no option speed"), ({"at_least": 1.0}, "35 of 38 nodes reach")]:
+    for words, says in [({"profile": "tank"}, "no profile tank"), ({"speed": 3}, "no option speed"), ({"at_least": 1.0}, "35 of 38 nodes reach"),
+                        ({"longest_arc": "250"}, "longest_arc '250' is no number")]:
         with pytest.raises((domethyme.MapError, ValueError), match=says):
             domethyme.from_osm(VILLAGE, out.parent / "w", **words)
+    for folder in (out.parent, f"{out.parent}/w/", ""):
+        with pytest.raises(ValueError, match="is a folder, or empty"):
+            domethyme.from_osm(VILLAGE, folder)
     assert not list(out.parent.glob("w*"))
 
 

@@ -1,6 +1,7 @@
 """A network of a map of OpenStreetMap: what `osm_to_gr` and `from_osm` do. Needs numpy, scipy and the program of map_arrays."""
 import collections
 import dataclasses
+import numbers
 import os
 from collections.abc import Callable, Iterator, Mapping
 from typing import Any, NamedTuple
@@ -55,6 +56,9 @@ def options_of(words: Mapping[str, Any]) -> Options:
     options = Options(**words)
     if options.weight not in WEIGHTS:
         raise ValueError(f"weight {options.weight!r} is none of {', '.join(WEIGHTS)}")
+    for name in ("longest_arc", "at_least"):
+        if not isinstance(getattr(options, name), numbers.Real):
+            raise ValueError(f"{name} {getattr(options, name)!r} is no number")
     if not 1 <= options.longest_arc <= MAX_METRES:
         raise ValueError(f"longest_arc {options.longest_arc} isn't from 1 to {MAX_METRES}")
     if not 0 <= options.at_least <= 1:

@@ -162,9 +162,10 @@ def one_kind(ids: Ints, kmh: Floats, number: Ints) -> Speeds:
 def speeds_of(rows: Any) -> Speeds:
     """The speeds of rows (from, to, kmh), or (way, kmh), or of a frame of pandas with these columns. Raises ValueError."""
     if is_pandas(rows):
-        names = next((names for names in COLUMNS.values() if {*names} <= {*rows.columns}), None)
-        if names is None:
-            raise ValueError("a frame of speeds has to have the columns from, to and kmh, or way and kmh")
+        found = [names for names in COLUMNS.values() if {*names} <= {*rows.columns}]
+        if len(found) != 1:
+            raise ValueError("a frame of speeds has to have the columns from, to and kmh, or way and kmh" + ", and not both" * len(found[1:]))
+        (names,) = found
         columns = [*(rows[name].to_numpy() for name in names[:-1]), rows["kmh"].to_numpy(float, na_value=np.nan)]
     else:
         listed = list(rows)
