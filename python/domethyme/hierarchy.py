@@ -256,8 +256,8 @@ class Hierarchy:
         self, lon: Any, lat: Any, side: Side | bool = "from", *, radius: float = DEFAULT_RADIUS, within: float | None = None,
         end: bool | None = None
     ) -> tuple[Any, Any]:
-        """The node nearest to each place in degrees, or its key, and how many metres away it is along the great circle: one
-        where routes begin, or with side="to" one where they end, which differ at junctions with turn restrictions. Two numbers
+        """The node nearest to each place in degrees, or its key, None if it has none, and how many metres away it is along the great
+        circle: one where routes begin, or with side="to" one where they end, which differ at junctions with turn restrictions. Two numbers
         give a node and a float, two arrays give two arrays. Needs the network. Raises NoSuchNode where none is within
         `radius` metres, and ValueError. A node is up to half an arc from the place on the road that `within` and the service begin at."""
         radius = radius_of(radius, within, "nearest(within=)")

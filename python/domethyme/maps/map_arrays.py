@@ -169,7 +169,8 @@ class Folder:
 
 def gzip_hint(path: StrPath) -> str:
     with contextlib.suppress(IsADirectoryError), open(path, "rb") as file:
-        return ": it is compressed by gzip, so gunzip it first" if file.read(2) == GZIP else ""
+        is_packed = file.read(2) == GZIP and not os.fspath(path).endswith(".gz")  # (of which libosmium knows)
+        return ": it is compressed by gzip, so gunzip it first" if is_packed else ""
     return ""
 
 
