@@ -7,10 +7,10 @@ from .json_text import to_json
 class RequestError(Exception):
     """The response `{"code": .., "message": ..}`, with a status of 400 to 505. Codes are OSRM's, or of this service."""
 
-    def __init__(self, status: int, code: str, message: str) -> None:
+    def __init__(self, status: int, code: str, message: str, **headers: str) -> None:
         super().__init__(message)
         self.status, self.code, self.message = status, code, message
-        self.headers = {"Retry-After": "1"} if status == 503 else {}
+        self.headers = {"Retry-After": "1"} if status == 503 else headers
 
     def json(self, **more: object) -> str:
         return to_json(dict[str, object](code=self.code, message=self.message, **more))

@@ -134,7 +134,8 @@ class Service:
         if method == "OPTIONS" and "HTTP_ACCESS_CONTROL_REQUEST_METHOD" in environ and self.options.access.headers:
             return PREFLIGHT
         if method != endpoint.method and not (method == "HEAD" and endpoint.method == "GET"):
-            raise RequestError(405, "MethodNotAllowed", f"the method of this path is {endpoint.method}")
+            allowed = "GET, HEAD" if endpoint.method == "GET" else endpoint.method
+            raise RequestError(405, "MethodNotAllowed", f"the method of this path is {endpoint.method}", Allow=allowed)
         has_body = environ.get("CONTENT_LENGTH", "0").strip("0") or "HTTP_TRANSFER_ENCODING" in environ
         if endpoint.method == "POST" and "HTTP_TRANSFER_ENCODING" in environ:
             raise RequestError(411, "LengthRequired", "a body needs its Content-Length")

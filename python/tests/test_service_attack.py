@@ -257,7 +257,8 @@ class BrowserTests(ServiceCase):
             self.assertEqual(self.ask("/nodes/lengths", "POST", line, {"Content-Type": kind})[0], 415)
         for kind in ("application/json", "application/x-ndjson; charset=utf-8"):
             self.assertEqual(self.ask("/nodes/lengths", "POST", line, {"Content-Type": kind})[0], 200)
-        self.assertEqual(self.ask("/nodes/lengths", "OPTIONS")[0], 405)
+        for path, allowed in (("/nodes/lengths", "POST"), ("/health", "GET, HEAD")):
+            self.assertEqual((self.ask(path, "OPTIONS")[0], self.headers["Allow"]), (405, allowed))
 
     def test_an_origin_that_may_ask(self):
         self.serve("--cors", "https://map.example")
