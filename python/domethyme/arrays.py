@@ -36,7 +36,8 @@ def whole_numbers(name: str, values: "ArrayLike | list[Hashable]", low: int, hig
 
 
 def pairs_of(pairs: Any, keys: Keys | None, nodes: int) -> Numbers:
-    """Rows (from, to), an array, a list or a frame with columns of COLUMNS, or with keys of COLUMNS_OF_KEYS, as an array of shape (n, 2) of nodes from 0.
+    """Rows (from, to), an array, a list or a frame with columns of COLUMNS, or with keys of COLUMNS_OF_KEYS, as an array of shape
+    (n, 2) of nodes from 0.
     Raises NoSuchNode, with the row, and ValueError."""
     columns = columns_of(pairs, COLUMNS if keys is None else COLUMNS_OF_KEYS)
     if keys is not None:
@@ -78,7 +79,8 @@ def split(pairs: Iterable[Any]) -> tuple[list[Hashable], list[Hashable]]:
 
 
 def nodes_of(name: str, values: Any, keys: Keys | None, nodes: int, are_ends: bool = False) -> Numbers:
-    """The values, an array or anything that can be iterated, as an array of one dimension of nodes from 0, where routes begin or end."""
+    """The values, an array or anything that can be iterated, as an array of one dimension of nodes from 0: where routes begin, or
+    end."""
     if keys is not None:
         return np.fromiter(map(keys.end, as_list(values)), np.int64) if are_ends else keys.nodes(values)
     array = whole_numbers(name, values if hasattr(values, "__array__") else as_list(values), 0, MAX_NODES - 1)

@@ -165,8 +165,8 @@ class Hierarchy:
 
         `pairs` are rows (from, to): an array of shape (n, 2), a list, or a frame of pandas with the columns `from` and
         `to`, or `source` and `target`, or `from_node` and `to_node` (in the tools' tables these count from 1), and with keys first
-        `from_key` and `to_key`; for a frame the lengths are a Series of Int64 with its index, missing if there is no path. As many threads ask as there are processors. Raises NoSuchNode, with the row,
-        and ValueError for what can't be pairs.
+        `from_key` and `to_key`; for a frame the lengths are a Series of Int64 with its index, missing if there is no path. As many
+        threads ask as there are processors. Raises NoSuchNode, with the row, and ValueError for what can't be pairs.
         """
         need("numpy")
         from . import arrays, batch
@@ -257,8 +257,8 @@ class Hierarchy:
         end: bool | None = None
     ) -> tuple[Any, Any]:
         """The node nearest to each place in degrees, or its key, None if it has none, and how many metres away it is along the great
-        circle: one where routes begin, or with side="to" one where they end, which differ at junctions with turn restrictions. Two numbers
-        give a node and a float, two arrays give two arrays. Needs the network. Raises NoSuchNode where none is within
+        circle: one where routes begin, or with side="to" one where they end, which differ at junctions with turn restrictions. Two
+        numbers give a node and a float, two arrays give two arrays. Needs the network. Raises NoSuchNode where none is within
         `radius` metres, and ValueError. A node is up to half an arc from the place on the road that `within` and the service begin at."""
         radius = radius_of(radius, within, "nearest(within=)")
         nodes, metres = self._need_network().nearest(lon, lat, side_of(side, end), radius=radius)

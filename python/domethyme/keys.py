@@ -27,7 +27,8 @@ class Keys:
     whose graph had them, and are refused for others."""
 
     def __init__(self, keys: "Keys | Mapping[Any, int] | Iterable[Hashable]", nodes: int | None = None) -> None:
-        """Of a mapping from keys to nodes, counted from 0, or of a key for each node in order, None or a missing value of pandas for no key.
+        """Of a mapping from keys to nodes, counted from 0, or of a key for each node in order, None or a missing value of pandas
+        for no key.
 
         Raises ValueError where two nodes have one key, or where there aren't as many keys as `nodes`; a mapping may have fewer.
         """
@@ -61,7 +62,8 @@ class Keys:
     def read(cls, path: StrPath, column: str = "osm") -> "Keys":
         """The keys in a column of a CSV file with a row for each node, in order, as NETWORK.nodes.csv: as int if all are whole
         numbers, else all as str; an empty field is no key. A key of several nodes can't be asked for, but that of a junction with
-        turn restrictions, which is the node where routes begin (the column ends is `from`), and where they end (`to`). Raises NetworkError."""
+        turn restrictions, which is the node where routes begin (the column ends is `from`), and where they end (`to`). Raises
+        NetworkError."""
         with open_table(path, [column]) as rows:
             listed = [(fields[column], fields.get("ends", "")) for _, fields in rows]
         return cls.of_rows(zip(parse_keys([text for text, _ in listed]), [ends for _, ends in listed]))
@@ -70,7 +72,8 @@ class Keys:
     def of_rows(cls, rows: Iterable[tuple[Hashable, str]]) -> "Keys":
         """The key of each node, or None, and its place at a junction with turn restrictions, as `read` has them."""
         listed = list(rows)
-        begins, ends = ({key: node for node, (key, end) in enumerate(listed) if end == side and key is not None} for side in ("from", "to"))
+        sides = ("from", "to")
+        begins, ends = ({key: node for node, (key, end) in enumerate(listed) if end == side and key is not None} for side in sides)
         return cls._choosing([key for key, _ in listed], begins, {key: node for key, node in ends.items() if key in begins})
 
     @classmethod

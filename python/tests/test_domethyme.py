@@ -250,7 +250,8 @@ print(domethyme.Hierarchy("--help").length(0, 2))
                     with self.subTest(key=key), self.assertRaisesRegex(domethyme.NoSuchNode, "names no node"):
                         hierarchy.length(key, 7)
         for missing in (None, np.nan, pd.NA, pd.NaT):
-            with domethyme.Hierarchy(self.folder / "square.rch", keys=pd.Series(["a", missing, "c", missing], dtype=object)) as hierarchy:
+            keys = pd.Series(["a", missing, "c", missing], dtype=object)
+            with domethyme.Hierarchy(self.folder / "square.rch", keys=keys) as hierarchy:
                 self.assertEqual(([*hierarchy.keys], hierarchy.length("a", "c")), (["a", None, "c", None], 7))
                 with self.assertRaisesRegex(domethyme.NoSuchNode, "names no node"):
                     hierarchy.matrix(pd.Series(["a", missing], dtype=object))

@@ -209,7 +209,8 @@ def millimetres_reached(net: Network, lengths: dict[int, int], starts: dict[int,
 def test_ids_of_a_map(data: Any) -> None:
     """Routes begin and end at the right nodes of junctions with turn restrictions, which have one key, and stay at one."""
     made = data.draw(networks())
-    begins, ends = ({node.osm: number for number, node in enumerate(made.tables.nodes) if node.ends in ("", side)} for side in ("from", "to"))
+    rows, sides = [*enumerate(made.tables.nodes)], ("from", "to")
+    begins, ends = ({node.osm: number for number, node in rows if node.ends in ("", side)} for side in sides)
     known = sorted(osm for osm in begins if osm is not None and osm in ends)
     if not known:
         return
@@ -225,17 +226,20 @@ def test_ids_of_a_map(data: Any) -> None:
                 [0 if start == target else found.get(ends[target], -1) for target in targets] for start, found in zip(starts, lengths)
             ]
             pairs, flat = [(start, target) for start in starts for target in targets], [length for row in wanted for length in row]
-            assert hierarchy.lengths(pairs).tolist() == flat == [-1 if each is None else each for each in (hierarchy.length(*pair) for pair in pairs)]
+            alone = [hierarchy.length(*pair) for pair in pairs]
+            assert hierarchy.lengths(pairs).tolist() == flat == [-1 if each is None else each for each in alone]
             routes = hierarchy.routes(pairs)
             assert routes.lengths.tolist() == flat and routes.to_frame()[["from", "to"]].to_numpy().tolist() == [*map(list, pairs)]
             assert hierarchy.matrix(np.array(starts), np.array(targets)).tolist() == wanted
             summed = hierarchy.matrix(starts, targets, sums=["metres"])
-            assert domethyme.unscaled(summed["length"]).to_numpy().tolist() == [[each if each >= 0 else math.inf for each in row] for row in wanted]
+            found = domethyme.unscaled(summed["length"]).to_numpy().tolist()
+            assert found == [[each if each >= 0 else math.inf for each in row] for row in wanted]
             assert all(summed["metres"].loc[key, key] == 0 for key in {*starts} & {*targets})
-            found, there = hierarchy.between(starts, targets), hierarchy.reach(targets, towards=True).fillna(-1)
-            assert (-1 if found is None else found.length) == min((length for length in flat if length >= 0), default=-1)
-            assert found is None or found.source in starts and found.target in targets
-            assert [there.iloc[begins[start]] for start in starts] == [min((each for each in row if each >= 0), default=-1) for row in wanted]
+            way, there = hierarchy.between(starts, targets), hierarchy.reach(targets, towards=True).fillna(-1)
+            assert (-1 if way is None else way.length) == min((length for length in flat if length >= 0), default=-1)
+            assert way is None or way.source in starts and way.target in targets
+            least = [min((each for each in row if each >= 0), default=-1) for row in wanted]
+            assert [there.iloc[begins[start]] for start in starts] == least
 
 
 @drawn(110)

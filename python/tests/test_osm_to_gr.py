@@ -276,7 +276,7 @@ BAD_MAPS = [
     ("half.osm", VILLAGE.read_bytes()[:5000], "half.osm: XML parsing error"),
     ("half.osm.bz2", bz2.compress(VILLAGE.read_bytes())[:900], "half.osm.bz2: bzip2 error"),
     ("half.osm.gz", gzip.compress(VILLAGE.read_bytes())[:900], "half.osm.gz: gzip error: read close failed\n"),
-    ("packed.osm", gzip.compress(VILLAGE.read_bytes()), "not well-formed (invalid token): it is compressed by gzip, so gunzip it first"),
+    ("packed.osm", gzip.compress(VILLAGE.read_bytes()), "(invalid token): it is compressed by gzip, so gunzip it first"),
     ("map.osm.opl", b"n1 x0 y0\nn2 x0.001 y0\nw1 Thighway=residential,name=caf\xe9 Nn1,n2\n",
      "map.osm.opl: 'utf-8' codec can't decode byte 0xe9"),
 ]

@@ -164,7 +164,8 @@ def speeds_of(rows: Any) -> Speeds:
     if is_pandas(rows):
         found = [names for names in COLUMNS.values() if {*names} <= {*rows.columns}]
         if len(found) != 1:
-            raise ValueError("a frame of speeds has to have the columns from, to and kmh, or way and kmh" + ", and not both" * len(found[1:]))
+            both = ", and not both" * len(found[1:])
+            raise ValueError(f"a frame of speeds has to have the columns from, to and kmh, or way and kmh{both}")
         (names,) = found
         columns = [*(rows[name].to_numpy() for name in names[:-1]), rows["kmh"].to_numpy(float, na_value=np.nan)]
     else:
