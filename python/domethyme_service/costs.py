@@ -144,8 +144,7 @@ def expected(size: Size, places: Sequence[Point], values: Values, unit: str) -> 
     found: dict[str, float] = {"S": 0, "P": len(places), "B": sum(map(bool, values[BEARINGS])), "N": size.nodes}
     if NUMBER in values:
         return {**found, "K": values[NUMBER]}
-    # (each place is the lesser way round from the one before, so longitudes may go beyond 180)
-    places = [*itertools.accumulate(places, lambda last, place: (last[0] + math.remainder(place[0] - last[0], 360), place[1]))]
+    places = [*itertools.accumulate(places, lesser_way)]
     legs, rows, cells = [math.dist(*ends) for ends in itertools.pairwise(places)], 0, 0
     if SOURCES in values:
         sources, destinations = values[SOURCES], values[DESTINATIONS]
@@ -169,6 +168,11 @@ def expected(size: Size, places: Sequence[Point], values: Values, unit: str) -> 
     # (a box that is as high as wide has half the square of its diagonal)
     shares = (min(1.0, 2 * math.pi * (radius / (size.degrees or 1.0)) ** 2) for radius in circles)
     return {**found, "C": len(circles), "R": sum(min(size.nodes * share, MOST_DRAWN) for share in shares)}
+
+
+def lesser_way(last: Point, place: Point) -> Point:
+    """A place by the lesser way round from the last one, so its longitude may be beyond 180."""
+    return last[0] + math.remainder(place[0] - last[0], 360), place[1]
 
 
 def between_two(places: Sequence[Point]) -> float:
