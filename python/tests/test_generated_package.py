@@ -154,11 +154,10 @@ def check_table(asked: Asked, sources: list[int], targets: list[int], form: str,
     summed = asked.hierarchy.matrix(rows, columns, sums=["metres"])
     lengths = [[asked.lengths[source].get(target, math.inf) for target in targets] for source in sources]
     assert np.asarray(domethyme.unscaled(summed["length"]), float).tolist() == lengths
-    for (row, column), metres in np.ndenumerate(np.asarray(summed["metres"], float)):
-        source, target = sources[row], targets[column]
-        reached = asked.lengths[source]
-        ways = millimetres_reached(asked.net, reached, {source: 0}, target) if target in reached else set[int]()
-        assert round(1000 * metres) in ways if ways else math.isnan(metres)
+    for source, row in zip(sources, np.asarray(summed["metres"], float).reshape(len(sources), len(targets)), strict=True):
+        millimetres = millimetres_reached(asked.net, asked.lengths[source], {source: 0})
+        for target, metres in zip(targets, row, strict=True):
+            assert round(1000 * metres) in millimetres[target] if target in millimetres else math.isnan(metres)
 
 
 def check_between(asked: Asked, starts: dict[int, int], ends: dict[int, int], form: str) -> None:
@@ -190,17 +189,23 @@ def check_reach(asked: Asked, starts: dict[int, int], limit: int | None, towards
     summed = asked.hierarchy.reach({asked.keys[node]: added for node, added in starts.items()}, limit, towards, sums=["metres"])
     assert [*summed] == ["length", "metres"] and [*map(type, summed.values())] == [type(found)] * 2
     assert domethyme.unscaled(summed["length"]).tolist() == domethyme.unscaled(found).tolist()
+    millimetres = millimetres_reached(asked.net.turned if towards else asked.net, wanted, starts)
     for node, metres in enumerate(np.asarray(summed["metres"], float)):
-        ways = millimetres_reached(asked.net.turned if towards else asked.net, wanted, starts, node) if expected[node] >= 0 else set[int]()
-        assert round(1000 * metres) in ways if ways else math.isnan(metres)
+        assert round(1000 * metres) in millimetres[node] if expected[node] >= 0 else math.isnan(metres)
 
 
-def millimetres_reached(net: Network, lengths: dict[int, int], starts: dict[int, int], node: int, steps: int = 12) -> set[int]:
-    """Those along each shortest path to a node from a start, of at most so many arcs."""
-    found = {0} if starts.get(node) == lengths[node] else set[int]()
-    for arc in net.arcs if steps else []:
-        if arc.end == node and lengths.get(arc.start, math.inf) == lengths[node] - arc.weight:
-            found |= {round(1000 * arc.metres) + more for more in millimetres_reached(net, lengths, starts, arc.start, steps - 1)}
+def millimetres_reached(net: Network, lengths: dict[int, int], starts: dict[int, int], most: int = 12) -> dict[int, set[int]]:
+    """Those along each shortest path of at most so many arcs from a start, by the node to which it leads."""
+    last = {node: {0} if starts.get(node) == length else set[int]() for node, length in lengths.items()}
+    found = {node: {*millimetres} for node, millimetres in last.items()}
+    arcs = [arc for arc in net.arcs if arc.start in lengths and lengths[arc.start] + arc.weight == lengths[arc.end]]
+    for _ in range(most):
+        longer: dict[int, set[int]] = {node: set() for node in lengths}
+        for arc in arcs:
+            longer[arc.end] |= {round(1000 * arc.metres) + millimetres for millimetres in last[arc.start]}
+        for node, more in longer.items():
+            found[node] |= more
+        last = longer
     return found
 
 
