@@ -122,6 +122,8 @@ class Graph:
             frame = frame.reset_index(levels)
         if missing := [name for name in (source, target, weight) if name not in frame.columns]:
             raise KeyError(f"the frame has no column {missing[0]}; it has {', '.join(map(str, frame.columns))}")
+        if several := [name for name in (source, target, weight) if frame[name].ndim > 1]:
+            raise ValueError(f"the frame has several columns {several[0]}")
         return cls.from_keys(frame[source], frame[target], frame[weight].to_numpy(), scale)
 
     def __repr__(self) -> str:

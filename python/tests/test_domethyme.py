@@ -308,6 +308,10 @@ print(domethyme.Hierarchy("--help").length(0, 2))
             self.assertEqual(hierarchy.lengths(pd.DataFrame({"o": ["a"], "d": ["c"]}).to_numpy()).tolist(), [7])
             of_tool = pd.DataFrame({"from_node": ["b"], "to_node": ["a"], "from_key": ["a"], "to_key": ["c"]})
             self.assertEqual(hierarchy.lengths(of_tool).tolist(), [7])
+        for name in ("from", "to", "weight"):
+            twice = pd.concat([frame[:2], frame[:2][[name]]], axis=1)
+            with self.subTest(name), self.assertRaisesRegex(ValueError, f"the frame has several columns {name}"):
+                domethyme.Graph.from_frame(twice)
 
     def test_the_recipe_of_the_page(self):
         """The example of docs/PYTHON.md prints what it says."""
