@@ -117,7 +117,7 @@ def refuse_overwriting(
     """Ends with status 2 where an output is a file that is read too, by whatever name, or by standard input; or another output. What is no
     regular file, as /dev/null, may be written twice."""
     given = [(path, file) for path in inputs if path is not None and (file := file_at(path)) is not None]
-    written = dict[str, str]()
+    written, standard_output = dict[str, str](), os.path.realpath("/dev/stdout")
     for output in outputs:
         if output is None:
             continue
@@ -126,9 +126,11 @@ def refuse_overwriting(
             if found is not None and os.path.samestat(found, file):
                 parser.error(f"{output} and {display_name(path)} are one file: it would be overwritten")
         # (of files with two names each is written anew, so links alone lead to one)
-        target = output if output == "-" else os.path.realpath(output)
-        if target in written and (output == "-" or found is not None or not os.path.exists(output)):
-            both = "two outputs are standard output" if output == "-" else f"{written[target]} and {output} are one file"
+        target = os.path.realpath(output)
+        if output == "-" or target == standard_output != os.devnull:
+            target = "-"
+        if target in written and (target == "-" or found is not None or not os.path.exists(output)):
+            both = "two outputs are standard output" if target == "-" else f"{written[target]} and {output} are one file"
             parser.error(f"{both}: one would be written over the other")
         written[target] = output
 

@@ -53,7 +53,7 @@ def test_no_output_is_an_input(tmp_path, monkeypatch, call, outputs):
 TWICE = [
     "nearest net trips.csv -o out --snapped ./out", "nearest net trips.csv --snapped -", "reweigh net places.csv out --unmatched out.gr",
     "reweigh net places.csv out --unmatched ./out.net", "table net net.rch places.csv trips.csv -o out --metres out",
-    "table net net.rch places.csv trips.csv --metres -"
+    "table net net.rch places.csv trips.csv --metres -", "table net net.rch places.csv trips.csv -o /dev/stdout --metres -"
 ]
 
 
@@ -92,6 +92,11 @@ class OverwritingTests(ToolCase):
             ended = subprocess.run(words, stdin=trips, cwd=self.folder, capture_output=True, text=True)
         self.assertEqual((ended.returncode, self.contents()), (2, before))
         self.assertIn("trips.csv and standard input are one file: it would be overwritten", ended.stderr)
+
+    def test_standard_output(self):
+        """A pipe, by its names."""
+        for one, other in itertools.product(("-", "/dev/stdout", "/dev/fd/1"), repeat=2):
+            self.assert_kept("table", "net", "net.rch", "a.csv", "b.csv", "-o", one, "--metres", other, says="two outputs are standard output")
 
     def test_tables_of_a_user(self):
         """They are neither overwritten nor removed, and are never read in place of the network's file."""
