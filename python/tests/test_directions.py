@@ -346,6 +346,10 @@ class FramesTests(ToolCase):
                 hierarchy.directions(wrong)
         with pytest.raises(ValueError, match="one for each place"):
             hierarchy.directions(places, bearings=[(0, 10)])
+        for words in ({"radius": "x"}, {"radius": None}, {"radius": math.nan}, {"radiuses": [math.nan, None, None]}):
+            for ask in (hierarchy.directions, hierarchy.table, lambda _, radius: hierarchy.nearest(*places[0], radius=radius)):
+                with pytest.raises(ValueError, match="radius.* to be numbers, and one is"):
+                    (hierarchy.directions if "radiuses" in words else ask)(places, **words)
         with pytest.raises(ValueError, match="approaches are .unrestricted. or .curb., and not .left."):
             hierarchy.directions(places, approaches=["left", None, "curb"])
         with pytest.raises(ValueError, match="a bearing is"):

@@ -1,5 +1,6 @@
 """Traces by the package: on the village, where each figure is one of the drawing, and places on legs by plain enumeration. The ways of
 short traces are compared with the model's in test_generated_service.py."""
+import datetime
 import itertools
 import json
 import math
@@ -96,9 +97,17 @@ class VillageTests(ToolCase):
     def test_arguments_that_are_refused(self):
         for words, says in [
             ({"trace": [(0, 0)]}, "two places or more"), ({"deviation": 0}, "above 0"), ({"deviation": 201}, "above 0"),
-            ({"deviation": [5]}, "one for each place"), ({"seconds": [1]}, "one for each place"), ({"seconds": [2, 1]}, "don't fall"),
-            ({"seconds": [1, math.nan]}, "don't fall"), ({"gaps": "both"}, "gaps has to be"), ({"bearings": [None]}, "one for each place"),
+            ({"deviation": [5]}, "one for each place"), ({"seconds": [1]}, "one for each place"),
+            ({"seconds": [2, 1]}, "don't fall"), ({"seconds": [1, math.nan]}, "have to be numbers"),
+            ({"gaps": "both"}, "gaps has to be"), ({"bearings": [None]}, "one for each place"),
             ({"bearings": [(400, 1), None]}, "a bearing is"), ({"trace": [(0, 0), (200, 0)]}, "-180"),
+            ({"bearings": [90, None]}, "a bearing is"), ({"bearings": [("a", 1), None]}, "a bearing is"),
+            ({"bearings": 5}, "one for each place"), ({"seconds": [-math.inf, 1]}, "don't fall"),
+            ({"seconds": np.array([0, 9], "M8[ns]")}, "seconds have to be numbers"),
+            ({"seconds": np.array([0, 9], "m8[ns]")}, "have to be numbers"),
+            ({"seconds": [datetime.datetime(2024, 5, day) for day in (1, 2)]}, "seconds have to be numbers"),
+            ({"seconds": 5}, "one for each place"), ({"deviation": np.array(5.0)}, "one for each place"),
+            ({"deviation": None}, "have to be numbers"),
         ]:
             with self.subTest(says), pytest.raises(ValueError, match=re.escape(says)):
                 self.hierarchy.match(**{"trace": self.along(0.0001, 0.0005), **words})

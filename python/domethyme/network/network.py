@@ -140,6 +140,7 @@ class Network:
         6,371,008.8 m: of those where routes may begin, or with side="to" of those where they may end, which differ at
         junctions with turn restrictions. Two numbers give an int and a float, two arrays of one shape give two arrays of that shape.
         Raises NoSuchNode where none is within `radius` metres, and ValueError for what are no degrees."""
+        radius = as_number("radius", radius)
         east, north = np.asarray(lon, float), np.asarray(lat, float)
         if east.ndim and north.ndim and east.shape != north.shape:
             raise ValueError(f"there are {east.size} values of lon and {north.size} of lat")
@@ -266,7 +267,7 @@ class Network:
 
         Raises NoSuchNode where no such road is near enough, ValueError for what are no degrees, and NetworkError.
         """
-        radius = radius_of(radius, max_metres, "points_on_roads(max_metres=)")
+        radius = as_number("radius", radius_of(radius, max_metres, "points_on_roads(max_metres=)"))
         rows = places_of(places)
         if not len(rows):
             raise ValueError("there has to be a place or more")
@@ -277,7 +278,7 @@ class Network:
         if unknown := [each for each in wanted_sides if each not in (None, "unrestricted", "curb")]:
             raise ValueError(f'approaches are "unrestricted" or "curb", and not {unknown[0]!r}')
         is_any, curbs = snapping == "any", [each == "curb" for each in wanted_sides]
-        limits = [radius if each is None else each for each in each_place("radiuses", radiuses, len(rows))]
+        limits = [radius if each is None else as_number("radiuses", each) for each in each_place("radiuses", radiuses, len(rows))]
         ranges = [None if each is None else bearing_range(each) for each in each_place("bearings", bearings, len(rows))]
         spots = [(lon, lat) for lon, lat in rows.tolist()]
         points: Iterable[SnappedPoint | None] = self.roads.nearest_within(spots, [math.inf] * len(spots), is_any)
@@ -312,12 +313,12 @@ def trace_of(places: Any, seconds: Sequence[float] | None, deviation: float | Se
     if count < 2:
         raise ValueError(f"a trace has two places or more, and not {count}")
     check_degrees(rows[:, 0], rows[:, 1])
-    times = None if seconds is None else [float(each) for each in each_place("seconds", seconds, count)]
-    if times is not None and not all(before <= behind < math.inf for before, behind in itertools.pairwise(times)):
+    times = None if seconds is None else [as_number("seconds", each) for each in each_place("seconds", seconds, count)]
+    if times is not None and not all(-math.inf < before <= behind < math.inf for before, behind in itertools.pairwise(times)):
         raise ValueError("seconds have to be numbers that don't fall")
     given: Any = deviation
     each_deviation: Sequence[Any] = [given] * count if isinstance(given, numbers.Real) else each_place("deviation", given, count)
-    deviations = [float(each) for each in each_deviation]
+    deviations = [as_number("deviation", each) for each in each_deviation]
     if not all(0 < each <= MAX_DEVIATION for each in deviations):
         raise ValueError(f"a deviation is above 0 and up to {MAX_DEVIATION:g} metres")
     ranges = [None if each is None else bearing_range(each) for each in each_place("bearings", bearings, count)]
@@ -326,15 +327,36 @@ def trace_of(places: Any, seconds: Sequence[float] | None, deviation: float | Se
 
 def each_place(name: str, values: "Sequence[Any] | None", count: int) -> Sequence[Any]:
     """A value for each place, None for each without any. Raises ValueError for another number of them."""
-    if values is not None and len(values) != count:
-        raise ValueError(f"{name} have to be one for each place, {count}, and are {len(values)}")
-    return [None] * count if values is None else values
+    if values is None:
+        return [None] * count
+    try:
+        size: Any = len(values)
+    except TypeError:
+        size = repr(values)
+    if size != count:
+        raise ValueError(f"{name} have to be one for each place, {count}, and are {size}")
+    return values
+
+
+def as_number(name: str, value: Any) -> float:
+    """A number, also of numpy, as a float. Raises ValueError for NaN, a date and anything else."""
+    try:
+        found = math.nan if isinstance(value, (np.datetime64, np.timedelta64)) else float(value)
+    except (TypeError, ValueError):
+        found = math.nan
+    if math.isnan(found):
+        raise ValueError(f"{name} have to be numbers, and one is {value!r}")
+    return found
 
 
 def bearing_range(value: Sequence[int]) -> BearingRange:
     """The range of a bearing and its tolerance. Raises ValueError."""
-    bearing, tolerance = value
-    if not (0 <= bearing <= 360 and 0 <= tolerance <= 180):
+    try:
+        bearing, tolerance = value
+        is_right = 0 <= bearing <= 360 and 0 <= tolerance <= 180
+    except (TypeError, ValueError):
+        is_right = False
+    if not is_right:
         raise ValueError(f"a bearing is (degrees from 0 to 360, tolerance from 0 to 180), and not {value!r}")
     return BearingRange(bearing, tolerance)
 
