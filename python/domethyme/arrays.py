@@ -24,12 +24,16 @@ def whole_numbers(name: str, values: "ArrayLike | list[Hashable]", low: int, hig
     array: NDArray[Any] = np.asarray(values)
     if array.size == 0:
         return array.astype(np.int64)
-    if array.dtype.kind not in "iu":
-        objects = np.asarray(values, object)  # (of unsigned integers beside others numpy makes floats)
-        if not all(type(to_python_scalar(value)) is int for value in objects.flat):
+    are_whole = array.dtype.kind in "iu"
+    if not are_whole or not hasattr(values, "dtype"):
+        # (of unsigned integers beside others numpy makes floats, and integers of truth values beside these)
+        objects = np.asarray(values, object)
+        if are_whole and {bool, np.bool_} & {*map(type, objects.flat)}:
+            raise ValueError(f"{name} have to be integers, and some are bool")
+        if not are_whole and not all(type(to_python_scalar(value)) is int for value in objects.flat):
             places = f": {OF_PLACES[name]}" if array.dtype.kind == "f" and name in OF_PLACES else ""
             raise ValueError(f"{name} have to be integers, and are {array.dtype}{places}")
-        array = objects
+        array = array if are_whole else objects
     if array.min() < low or array.max() > high:
         raise ValueError(f"{name} have to be from {low} to {high}, and are from {array.min()} to {array.max()}")
     return array.astype(np.int64)
