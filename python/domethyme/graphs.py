@@ -180,15 +180,15 @@ def need_scale(scale: float) -> None:
 def unscaled(lengths: Any, scale: float = 1) -> Any:
     """Lengths as floats in the unit that weights had before `scale`: lengths / scale, and inf if there is no path.
 
-    `lengths` are what a Hierarchy returned: an int or None, an array, or a Series or DataFrame of pandas. The result is a
+    `lengths` are what a Hierarchy returned: an int or None (pandas.NA), an array, or a Series or DataFrame of pandas. The result is a
     float, or is like the argument, of the same shape. Floats are exact up to 2^53. Raises ValueError for a scale that isn't above 0.
     """
     need_scale(scale)
-    if lengths is None:
-        return math.inf
-    floats = lengths / scale
+    floats = None if lengths is None else lengths / scale
     if isinstance(floats, float):
         return floats if lengths >= 0 else math.inf
+    if not hasattr(floats, "astype"):  # (None, or pandas.NA)
+        return math.inf
     floats = floats.astype(float)
     floats[~(floats >= 0)] = math.inf
     return floats

@@ -630,7 +630,7 @@ class Hierarchy:
 
 def is_with_metres(sums: Sequence[str]) -> bool:
     """Whether a table has the metres along paths too. Raises ValueError for other sums."""
-    if sums and (isinstance(sums, str) or [*sums] != ["metres"]):
+    if sums and (isinstance(sums, str) or not isinstance(sums, Iterable) or [*sums] != ["metres"]):
         raise ValueError(f'sums has to be ["metres"], and is {sums!r}')
     return bool(sums)
 

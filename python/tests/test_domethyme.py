@@ -221,9 +221,11 @@ print(domethyme.Hierarchy("--help").length(0, 2))
         frame = pd.DataFrame({"from": np.array([0, 1], np.uint64), "to": [2, 1]})
         self.assertEqual(hierarchy.lengths(frame).tolist(), hierarchy.lengths([[0, 2], [1, 1]]).tolist())
         self.assertEqual(hierarchy.routes(frame)[np.uint64(1)].tolist(), [1])
-        for nodes in ([0, 2.0], [0.0, np.uint64(2)], np.array([0, 2.0], object), np.array([True, 2], object)):
+        for nodes in ([0, 2.0], [0.0, np.uint64(2)], np.array([0, 2.0], object), np.array([True, 2], object), [True, 2], [np.True_, 2]):
             with self.subTest(nodes=nodes), self.assertRaisesRegex(ValueError, "have to be integers"):
                 hierarchy.matrix(nodes)
+            with self.subTest(nodes=nodes), self.assertRaisesRegex(ValueError, "have to be integers"):
+                hierarchy.routes([list(nodes)])
 
     def test_slices_and_equality(self):
         hierarchy, pairs = self.square(), [[0, 2], [0, 3], [3, 2], [1, 1]]
@@ -279,6 +281,7 @@ print(domethyme.Hierarchy("--help").length(0, 2))
         with graph.prepare(self.folder / "scaled.rch", program=find_program()) as hierarchy:
             lengths = [hierarchy.length("a", "c"), hierarchy.length("c", "a")]
             self.assertEqual([domethyme.unscaled(length, 1000) for length in lengths], [2.5, float("inf")])
+            self.assertEqual(domethyme.unscaled(pd.NA, 1000), float("inf"))
             self.assertEqual(domethyme.unscaled(hierarchy.matrix(np.array(["a", "c"])), 1000).tolist(), [[0, 2.5], [float("inf"), 0]])
             series = domethyme.unscaled(hierarchy.lengths(pd.DataFrame({"from": ["a", "c"], "to": ["b", "b"]}, index=[4, 5])))
             self.assertEqual(series.to_dict(), {4: 500, 5: float("inf")})

@@ -100,7 +100,7 @@ def test_the_calls_of_the_library(network):
         assert asked(range(9), range(9), 81) == OK and lengths[0] == lengths[80] == 0
 
 
-@pytest.mark.parametrize("sums, why", [("metres", "sums has to be"), (["km"], "sums has to be"), (["metres"], "has no network")])
+@pytest.mark.parametrize("sums, why", [("metres", "sums has to be"), (["km"], "sums has to be"), (5, "sums has to be"), (["metres"], "has no network")])
 def test_sums_that_nobody_has(network, sums, why):
     with pytest.raises(ValueError, match=why):
         network[0].matrix(np.array([0]), np.array([1]), sums=sums)

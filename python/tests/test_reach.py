@@ -144,6 +144,8 @@ def test_within(made_town, form, kinds, towards):
     ((0, 0), {"metres": [5]}, ValueError, "aren't a distance"),
     ((0, 0), {"minutes": [5], "metres": [5]}, ValueError, "one of both"), ((0, 0), {"minutes": [1e300]}, ValueError, "too much"),
     ((0, 0), {"colors": ["red"] * 3}, ValueError, "hexadecimal"), ((0, 0), {"colors": ["ff0000"]}, ValueError, "colours"),
+    ((0, 0), {"colors": 5}, ValueError, "hexadecimal"), ((0, 0), {"colors": [5, 5, 5]}, ValueError, "hexadecimal"),
+    ((0, 0), {"generalize": "x"}, ValueError, "generalize"), ((0, 0), {"denoise": "x"}, ValueError, "denoise"),
     ((0, 0), {"denoise": 2}, ValueError, "denoise"), ((0, 0), {"generalize": -1}, ValueError, "generalize"),
     ((0, 0), {"minutes": [float("nan")]}, ValueError, "above 0"), ((0, 0), {"minutes": [0, 1]}, ValueError, "above 0"),
     ((0, 0), {"minutes": [float("inf")]}, ValueError, "above 0"), ((0, 0), {"shape": "circles"}, ValueError, "shape"),

@@ -313,6 +313,7 @@ class ToolTests(ToolCase):
         self.assertEqual(network.reweigh(pandas.DataFrame({"kmh": [35.0], "way": [11]}), self.folder / "own").changed, 4)
         self.assertEqual(network.reweigh([], self.folder / "own").changed, 0)
         for speeds, says in (([(1, 2, 3, 4)], "speeds have to be rows"), ([(11, 1001)], "kmh isn't from 0 to 1000"), ([(11, np.nan)], "kmh isn't"),
+                             (None, "speeds have to be rows"), ([5], "speeds have to be rows"), ([(11, 5), 5], "speeds have to be rows"),
                              (frame.assign(kmh=pandas.array([None, 5.5, 9], "Float64")), "kmh isn't"),
                              (frame.rename(columns={"from": "a"}), "a frame of speeds has to have the columns"),
                              (frame.assign(way=11), "and not both")):

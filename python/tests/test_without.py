@@ -241,3 +241,6 @@ class MapTests(ToolCase):
                 command.parse_excluded(word)
         with self.assertRaisesRegex(ValueError, "there is no class 'm'"):
             domethyme.Network(self.folder / "net", exclude=["m"])
+        for wrong in (5, [5], None):
+            with self.assertRaisesRegex(ValueError, "there is no class"):
+                domethyme.Network(self.folder / "net", exclude=wrong)

@@ -1,6 +1,7 @@
 """Contours with fewer parts or points, and as GeoJSON needs them. A contour is a list of polygons, which lies within the
 next one, before and afterwards. Needs numpy and shapely."""
 import itertools
+import numbers
 from collections.abc import Sequence
 from typing import Any
 
@@ -23,7 +24,7 @@ def denoised(contours: Sequence[list[Polygon]], share: float) -> list[list[Polyg
     """Contours without the parts and holes whose area is less than a share, from 0 to 1, of the area of the contour's
     largest part. Holes count as area of parts. A part that has one of a lesser contour in it stays. Raises ValueError
     for another share."""
-    if not 0 <= share <= 1:
+    if not isinstance(share, numbers.Real) or not 0 <= share <= 1:
         raise ValueError(f"denoise has to be from 0 to 1, and is {share}")
     found: list[list[Polygon]] = []
     for polygons in contours:
@@ -46,7 +47,7 @@ def generalized(contours: Sequence[list[Polygon]], metres: float) -> list[list[P
     isn't valid, or one contour isn't within the next, it is tried with half of the metres, and so on HALVINGS times; then
     contours stay as they are. Raises ValueError for less than 0 or no number.
     """
-    if not 0 <= metres < float("inf"):
+    if not isinstance(metres, numbers.Real) or not 0 <= metres < float("inf"):
         raise ValueError(f"generalize has to be a number of metres from 0, and is {metres}")
     rings = [[rings_of(each) for each in polygons] for polygons in contours]
     every = list(itertools.chain.from_iterable(itertools.chain.from_iterable(rings)))

@@ -115,10 +115,10 @@ def drawn(reach: Reach, asked: Sequence[float], metric: Metric, style: Style) ->
     """The properties and the geometries of `features`."""
     count = len(reach.limits)
     colors = style.colors or [COLORS[place % len(COLORS)] for place in range(count)]
+    if not isinstance(colors, Sequence) or not all(isinstance(each, str) and COLOR.fullmatch(each) for each in colors):
+        raise ValueError("colours are six hexadecimal digits each")
     if len(asked) != count or len(colors) != count:
         raise ValueError(f"there are {count} limits, and {len(asked)} numbers and {len(colors)} colours for them")
-    if not all(map(COLOR.fullmatch, colors)):
-        raise ValueError("colours are six hexadecimal digits each")
     if style.shape not in get_args(Shape):
         raise ValueError(f"the shape has to be one of {', '.join(get_args(Shape))}, and is {style.shape!r}")
     found = [properties(value, metric, color) for value, color in zip(asked, colors)]

@@ -53,7 +53,7 @@ class Network:
         """With `exclude`, some of motorway, toll, ferry and tunnel, the network is without these roads, and without what they cut off: its
         hierarchy is that of the graph that the tool `without` makes. That takes scipy. Raises NetworkError where there are no such files, and ValueError."""
         self.prefix, self._files = os.fspath(prefix), Files(prefix)
-        words = exclude if isinstance(exclude, str) else ",".join(exclude)
+        words = ",".join(map(str, exclude)) if isinstance(exclude, Iterable) and not isinstance(exclude, str) else str(exclude)
         self.exclude = parse_classes(words) if words else frozenset[str]()
         self._full_prefix = os.path.abspath(self.prefix)
         need_nodes(prefix)

@@ -169,8 +169,12 @@ def speeds_of(rows: Any) -> Speeds:
         (names,) = found
         columns = [*(rows[name].to_numpy() for name in names[:-1]), rows["kmh"].to_numpy(float, na_value=np.nan)]
     else:
-        listed = list(rows)
-        if len({*map(len, listed)}) > 1 or not {*map(len, listed)} <= {*COLUMNS}:
+        try:
+            listed = list(rows)
+            lengths = {*map(len, listed)}
+        except TypeError:
+            lengths = {0}
+        if len(lengths) > 1 or not lengths <= {*COLUMNS}:
             raise ValueError("speeds have to be rows (from, to, kmh), or rows (way, kmh)")
         columns = [np.array(column) for column in zip(*listed)] or [np.empty(0, np.int64)] * 2
     *ids, kmh = columns
