@@ -4,6 +4,7 @@ import datetime
 import itertools
 import json
 import math
+import pickle
 import random
 import re
 from types import SimpleNamespace
@@ -64,6 +65,8 @@ class VillageTests(ToolCase):
             (way,), places = self.hierarchy.match(trace, deviation=np.float32(20), bearings=np.full((2, 2), (bearing, 30)))
             arc, = places[0].arcs
             self.assertEqual(self.hierarchy.network.roads.arc(arc).is_along, east == (self.hierarchy.network.roads.edge(places[0].edge).points[0][0] == 0.0))
+            again = pickle.loads(pickle.dumps(way))
+            assert (again.points, again.confidence, again.geojson()) == (way.points, way.confidence, way.geojson())
         found = self.hierarchy.match(self.along(0.0002, 0.0007), bearings=[(0, 10), (0, 10)])
         self.assertEqual((found.matchings, found.places), ([], [None, None]))
 

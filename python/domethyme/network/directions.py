@@ -130,6 +130,10 @@ class Matching:
     def __repr__(self) -> str:
         return f"<Matching of {len(self.points)} points>"
 
+    def __getstate__(self) -> dict[str, Any]:
+        """For pickle: with the Directions in place of the roads of the open network."""
+        return {**vars(self), "directions": self.directions, "_roads": None}
+
     @functools.cached_property
     def directions(self) -> Directions:
         """The Directions along the way, with a leg from each of its points to the next."""
