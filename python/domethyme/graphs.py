@@ -184,7 +184,7 @@ def unscaled(lengths: Any, scale: float = 1) -> Any:
     float, or is like the argument, of the same shape. Floats are exact up to 2^53. Raises ValueError for a scale that isn't above 0.
     """
     need_scale(scale)
-    floats = None if lengths is None else lengths / scale
+    floats: Any = None if lengths is None else lengths / scale
     if isinstance(floats, float):
         return floats if lengths >= 0 else math.inf
     if not hasattr(floats, "astype"):  # (None, or pandas.NA)
