@@ -37,7 +37,7 @@ from domethyme.program import find_program
 
 from . import parts
 from .cli import (
-    ToolError, add_hierarchy, argument_parser, current_arguments, display_name, need_hierarchy, require_packages, warn
+    ToolError, add_hierarchy, argument_parser, current_arguments, display_name, file_at, need_hierarchy, require_packages, warn
 )
 
 if TYPE_CHECKING:
@@ -77,10 +77,10 @@ def positive_int(text: str) -> int:
 
 def main() -> None:
     options = parse_args()
-    check_out(options)
     beside = options.hierarchy.removesuffix(".rch")
     if options.network is None and beside != options.hierarchy and os.path.exists(f"{beside}.net"):
         options.network = beside
+    check_out(options)
     network = None if options.network is None else need_hierarchy(options)
     folder = parts.Folder(options.out)
     try:
@@ -119,8 +119,8 @@ def check_out(options: argparse.Namespace) -> None:
     if out == "-" or not os.path.basename(out) or os.path.exists(out) and not os.path.isfile(out):
         raise ToolError(f"OUT has to be a file, and {out!r} is none", status=2)
     for path in (options.hierarchy, options.pairs, *(paths_of(options.network) if options.network is not None else ())):
-        if os.path.exists(out) and os.path.exists(path) and os.path.samefile(out, path):
-            raise ToolError(f"OUT and {path} are one file", status=2)
+        if (written := file_at(out)) and (read := file_at(path)) and os.path.samestat(written, read):
+            raise ToolError(f"OUT and {display_name(path)} are one file", status=2)
     if os.path.exists(out) and not os.access(out, os.W_OK):
         raise ToolError("may not be written", out)
 

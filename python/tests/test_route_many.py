@@ -271,6 +271,13 @@ class OneMachineTests(RouteManyCase):
             with self.subTest(words=wrong):
                 self.run_tool("route_many", *wrong, status=2)
                 self.assert_untouched()
+        with open(self.folder / "pairs", encoding="utf-8") as pairs:
+            words = [str(TOOLS / "route_many"), "network.rch", "-", "pairs"]
+            ended = subprocess.run(words, stdin=pairs, cwd=self.folder, capture_output=True, text=True)
+        self.assertEqual((ended.returncode, ended.stderr), (2, "route_many: OUT and standard input are one file\n"))
+        self.before = sorted([*self.before, self.write("network.net", "").name])
+        self.assertIn("OUT and network.net are one", self.run_tool("route_many", "network.rch", "pairs", "network.net", status=2).stderr)
+        self.assert_untouched()
 
     def test_files_that_are_not_there(self):
         self.assert_refused("route_many", "no.rch", "pairs", "out", says="no.rch: No such file")
