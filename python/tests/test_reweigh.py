@@ -316,7 +316,9 @@ class ToolTests(ToolCase):
                              (None, "speeds have to be rows"), ([5], "speeds have to be rows"), ([(11, 5), 5], "speeds have to be rows"),
                              (frame.assign(kmh=pandas.array([None, 5.5, 9], "Float64")), "kmh isn't"),
                              (frame.rename(columns={"from": "a"}), "a frame of speeds has to have the columns"),
-                             (frame.assign(way=11), "and not both")):
+                             (frame.assign(way=11), "and not both"),
+                             *((pandas.concat([frame, frame[[name]]], axis=1), f"several columns {name}") for name in frame.columns),
+                             (pandas.DataFrame([(1, 2, 30)], columns=["way", "way", "kmh"]), "several columns way")):
             with self.assertRaisesRegex(ValueError, says):
                 network.reweigh(speeds, self.folder / "own")
         self.assertEqual(self.arcs("own"), self.arcs("map"))

@@ -167,6 +167,8 @@ def speeds_of(rows: Any) -> Speeds:
             both = ", and not both" * len(found[1:])
             raise ValueError(f"a frame of speeds has to have the columns from, to and kmh, or way and kmh{both}")
         (names,) = found
+        if several := [name for name in names if rows[name].ndim > 1]:
+            raise ValueError(f"the frame has several columns {several[0]}")
         columns = [*(rows[name].to_numpy() for name in names[:-1]), rows["kmh"].to_numpy(float, na_value=np.nan)]
     else:
         try:
