@@ -109,7 +109,7 @@ class RecipeTests(NginxCase):
         """A folder of commands: the tools as the package names them, routecli, and those that are given as lines of sh."""
         folder = self.folder / "bin"
         folder.mkdir()
-        for name in ("osm_to_gr", "reweigh", "to_network"):
+        for name in ("osm_to_gr", "reweigh", "to_network", "without"):
             said["domethyme-" + name.replace("_", "-")] = f'exec {TOOLS}/{name} "$@"'
         said["routecli"] = f'exec {pathlib.Path(os.environ["ROUTECLI"]).resolve()} "$@"'
         for name, lines in said.items():
@@ -182,14 +182,17 @@ class RecipeTests(NginxCase):
         self.machine()
         served = self.folder / "var/lib/domethyme"
         self.run_tool("osm_to_gr", VILLAGE, served / "network", "--profile", "bicycle")
-        domethyme.prepare(served / "network.gr", served / "network.rch", workers=1).close()
-        process = self.serve_network(served / "network")
+        self.run_tool("without", served / "network", "motorway", served / "free.gr")
+        for graph, name in (("network", "network"), ("free", "network.without-motorway")):
+            domethyme.prepare(served / f"{graph}.gr", served / f"{name}.rch", workers=1).close()
+        process = self.serve_network(served / "network", "--exclude", f"motorway={served}/network.without-motorway.rch")
         before = self.ask("/health")[1]["nodes"]
         write_map(self.folder / "village.osm.pbf", VILLAGE)
         checksum, environment = hashlib.md5((self.folder / "village.osm.pbf").read_bytes()).hexdigest(), self.commands()
         night = ["sh", REFRESH, f"file://{self.folder}/village.osm.pbf", served / "network"]
         self.write("village.osm.pbf.md5", f"{checksum}  village.osm.pbf\n")
-        self.run_program(night, environment={**environment, "SHRINK": "0.3"})
+        self.run_program(night, environment={**environment, "SHRINK": "0.3", "EXCLUDE": "tunnel motorway"})
+        self.assertTrue((served / "network.without-tunnel.rch").exists())
         process.send_signal(signal.SIGHUP)
         self.wait_for(lambda: self.value("reloads_total") == 1)
         nodes = read_graph(served / "network.gr").nodes
@@ -240,9 +243,9 @@ class RecipeTests(NginxCase):
         self.wait_for(lambda: self.value("reloads_total") == 1)
         self.assertGreater(self.ask(PLACE.format("car"))[1]["routes"][0]["duration"], before)
 
-    def serve_network(self, network):
+    def serve_network(self, network, *options):
         """A service of these files at a port, as `serve` starts that of the village."""
         rch = self.folder / "v.rch"
         rch.unlink()
         rch.symlink_to(f"{network}.rch")
-        return self.serve("--network", network)
+        return self.serve("--network", network, *options)
