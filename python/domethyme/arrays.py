@@ -105,8 +105,8 @@ def places_of(places: Any) -> NDArray[np.float64]:
         points = points if points.crs is None else points.to_crs(4326)
         return np.column_stack((points.x, points.y))
     if is_pandas(places) and places.ndim == 2:
-        if not {"lon", "lat"} <= set(places.columns):
-            raise ValueError("a frame of places has to have the columns lon and lat")
+        if [*places.columns].count("lon") != 1 or [*places.columns].count("lat") != 1:
+            raise ValueError("a frame of places has to have the columns lon and lat, each once")
         try:
             return np.asarray(places[["lon", "lat"]], float)
         except TypeError:

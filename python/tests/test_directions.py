@@ -340,13 +340,14 @@ class FramesTests(ToolCase):
         for wrong, says in (
             (places[:1], "two places or more"), ([(1, 2, 3)], "rows (lon, lat)"), (frame.rename(columns={"lon": "x"}), "columns lon and lat"),
             (frame.assign(lon=pandas.array([9.5, None, 9.5], "Float64")), "some are missing"),
+            (pandas.concat([frame, frame["lon"]], axis=1), "columns lon and lat, each once"),
             ([], "a place or more"), ([(200, 0)] * 2, "lon has to be from -180"), ([places[0], (0.0, 80.0)], "no road within 1000 m"),
         ):
             with pytest.raises(ValueError, match=re.escape(says)):
                 hierarchy.directions(wrong)
         with pytest.raises(ValueError, match="one for each place"):
             hierarchy.directions(places, bearings=[(0, 10)])
-        for words in ({"radius": "x"}, {"radius": None}, {"radius": math.nan}, {"radiuses": [math.nan, None, None]}):
+        for words in ({"radius": "5"}, {"radius": True}, {"radius": None}, {"radius": math.nan}, {"radiuses": [math.nan, None, None]}):
             for ask in (hierarchy.directions, hierarchy.table, lambda _, radius: hierarchy.nearest(*places[0], radius=radius)):
                 with pytest.raises(ValueError, match="radius.* to be numbers, and one is"):
                     (hierarchy.directions if "radiuses" in words else ask)(places, **words)

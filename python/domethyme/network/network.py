@@ -339,9 +339,9 @@ def each_place(name: str, values: "Sequence[Any] | None", count: int) -> Sequenc
 
 
 def as_number(name: str, value: Any) -> float:
-    """A number, also of numpy, as a float. Raises ValueError for NaN, a date and anything else."""
+    """A number, also of numpy, as a float. Raises ValueError for NaN, a date, a text, a truth value and anything else."""
     try:
-        found = math.nan if isinstance(value, (np.datetime64, np.timedelta64)) else float(value)
+        found = math.nan if isinstance(value, (np.datetime64, np.timedelta64, str, bytes, bool, np.bool_)) else float(value)
     except (TypeError, ValueError):
         found = math.nan
     if math.isnan(found):
