@@ -49,7 +49,8 @@ def pairs_of(pairs: Any, keys: Keys | None, nodes: int) -> Numbers:
         starts = keys.nodes(firsts)
         found = np.column_stack([starts, np.fromiter(map(keys.end, as_list(seconds), starts.tolist()), np.int64)])
     else:
-        parts = [pairs] if columns is None else columns  # (by themselves: numpy makes floats of columns of int64 and uint64)
+        rows = as_list(pairs) if isinstance(pairs, Iterable) and not hasattr(pairs, "__array__") else pairs
+        parts = [rows] if columns is None else columns  # (by themselves: numpy makes floats of columns of int64 and uint64)
         found, *others = [whole_numbers("pairs", part, 0, MAX_NODES - 1) for part in parts]
         found = np.column_stack([found, *others]) if others else found
         found = found.reshape(0, 2) if found.size == 0 else found

@@ -156,6 +156,8 @@ print(domethyme.Hierarchy("--help").length(0, 2))
         ]:
             with self.subTest(says=says), self.assertRaisesRegex(ValueError, says):
                 hierarchy.routes(wrong)
+        self.assertRaisesRegex(ValueError, "rows of two nodes", hierarchy.lengths, 5)
+        self.assertEqual(hierarchy.lengths(zip([0, 1], [2, 1])).tolist(), hierarchy.lengths([(0, 2), (1, 1)]).tolist())
 
     def test_errors_by_their_kinds(self):
         graph, file = self.write("bad.gr", "p sp 2 1\na 1 3 5\n"), self.folder / "bad.rch"
