@@ -66,6 +66,7 @@ def networks(draw: Any, kinds: Sequence[str] = KINDS, most: int = 8, origins: Se
     for number, point in enumerate(points):
         is_there_again = draw(st.integers(0, 9)) == 0  # (two junctions that are split in one place differ by their ids)
         point = points[draw(st.integers(0, number))] if is_there_again else point
+        is_there_again |= point in [node.place for node in nodes]
         key = f"node {number}" if has_keys else str(number + 1)
         osm = 40 + number if is_there_again else draw(st.sampled_from([None, 40 + number]))
         nodes.append(Node(point[0], point[1], key, osm))
