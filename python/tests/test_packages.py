@@ -1,8 +1,14 @@
 """Tests of check_packages and fetch_extract where they have no network: with programs in the place of Debian's."""
+import hashlib
 import os
 import shutil
+import tempfile
+from unittest import mock
 
+from draws import run_tool
 from tool_case import TOOLS, ToolCase
+
+from domethyme_tools import fetch_extract
 
 NO_PACKAGE = "#!/bin/sh\nexit 1\n"
 
@@ -100,15 +106,35 @@ class FetchExtract(PackagesCase):
         self.assert_refused("fetch_extract", ".", says=says, environment=self.path)
 
     def test_what_apt_get_says(self):
+        """A wrong file of the right size is fetched anew, and stays where that fails."""
         name = "liechtenstein-2013-08-03.osm.pbf"
+        self.write(name, "x" * 592_570)
         for lines, says in (
             ("echo 'W: slow' >&2\necho 'E: Could not connect' >&2\nexit 100", f"{name} can't be had: apt-get says: Could not connect\n"),
+            ("case $* in *update) echo 'E: No lists' >&2; exit 100; esac", "can't be had: apt-get says: No lists\n"),
             ("touch empty\ntar -cf osm2pgsql_1.tar.gz empty", "can't be had: Debian's source package hasn't got it"),
             (f"echo wrong >{name}\ntar -cf osm2pgsql_1.tar.gz {name}",
              "can't be had: Debian's source package has another file of that name"),
         ):
             self.put_program("apt-get", f"#!/bin/sh\n{lines}\n")
             self.refused(says)
+
+    def test_what_is_fetched(self):
+        """The file of that name in any folder of the package, by lists and a cache of its own, which are removed; and once only."""
+        name = fetch_extract.NAME
+        self.put_program("apt-get", f"""#!/bin/sh\necho "$@" >>{self.folder}/calls\ncat "$PWD/sources.list" >>{self.folder}/calls
+mkdir -p a/b/{name} c/b\necho whole >c/b/{name}\necho no >c/b/no-{name}\ntar -cf osm2pgsql_1.tar.gz a c/b/no-{name} c/b/{name}\n""")
+        digest = mock.patch.object(fetch_extract, "SHA256", hashlib.sha256(b"whole\n").hexdigest())
+        with digest, mock.patch.dict(os.environ, self.path), mock.patch.object(tempfile, "tempdir", str(self.folder)):
+            said = [run_tool("fetch_extract", self.folder / "new/out")[1] for _ in range(2)]
+        self.assertEqual((self.folder / "new/out" / name).read_text(), "whole\n")
+        self.assertEqual([text.split(name)[1] for text in said], [": 6 bytes\n", " is there already\n"])
+        calls = (self.folder / "calls").read_text().splitlines()
+        self.assertEqual([line.split()[-1] for line in calls], ["update", "main", "osm2pgsql=1.8.0+ds-1", "main"])
+        own = f"{self.folder}/fetch-extract-"
+        for setting in ("Dir::Etc::SourceList=", "Dir::State=", "Dir::Cache="):
+            self.assertEqual([setting + own in line for line in calls], [True, False] * 2)
+        self.assertEqual({path.name for path in self.folder.iterdir() if path.is_dir()}, {"programs", "new"})
 
     def test_no_apt_get(self):
         for name in ("dirname", "readlink"):  # which the command of the tool calls
