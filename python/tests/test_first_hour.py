@@ -19,7 +19,7 @@ from domethyme.network.components import in_largest
 def village(tmp_path_factory):
     """The hierarchy of the village, and what its progress was."""
     told, out = [], tmp_path_factory.mktemp("village") / "v"
-    with domethyme.from_osm(VILLAGE, out, keep_islands=True, progress=lambda *told_now: told.append(told_now)) as hierarchy:
+    with domethyme.from_osm(VILLAGE, out, keep_islands=True, at_least=1, progress=lambda *told_now: told.append(told_now)) as hierarchy:
         yield hierarchy, told, out
 
 
@@ -32,7 +32,10 @@ def test_a_map_in_one_call(village):
         assert again.keys is None and again.network.prefix == str(out)
         assert again.route(0, 5).nodes == third.route(0, 5).nodes == hierarchy.route(0, 5).nodes
     for words, says in [({"profile": "tank"}, "no profile tank"), ({"speed": 3}, "no option speed"), ({"at_least": 1.0}, "35 of 38 nodes reach"),
-                        ({"longest_arc": "250"}, "longest_arc '250' is no number")]:
+                        ({"at_least": 0.93}, "35 of 38 nodes reach one another, less than 93%"), ({"at_least": -0.1}, "isn't from 0 to 1"),
+                        ({"longest_arc": "250"}, "longest_arc '250' is no number"), ({"longest_arc": 0.5}, "isn't from 1 to 1000000"),
+                        ({"weight": "days"}, "'days' is none of length, time"), ({"weight": ["time"]}, r"weight \['time'\] is no text"),
+                        ({"attribution": None}, "attribution None is no text")]:
         with pytest.raises((domethyme.MapError, ValueError), match=says):
             domethyme.from_osm(VILLAGE, out.parent / "w", **words)
     for folder in (out.parent, f"{out.parent}/w/", ""):

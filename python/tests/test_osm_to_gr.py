@@ -1,4 +1,5 @@
 """Tests of osm_to_gr: each rule in the village of village.osm, whose figures are reckoned from the drawing in README.md."""
+import argparse
 import bz2
 import collections
 import contextlib
@@ -7,10 +8,14 @@ import json
 import xml.etree.ElementTree as xml
 
 import osmium
+import pytest
+from draws import run_tool
 from tool_case import PYTHON, VILLAGE, ToolCase, read_rows
 
+import domethyme
 from domethyme.dimacs import read_graph
 from domethyme.network.tables import ALL_ARC_COLUMNS, read_attribution
+from domethyme_tools.osm_to_gr import longest_arc, share
 
 # A step of the drawing is a thousandth of a degree: 6371008.8 m * pi / 180 / 1000 = 111.19508 m. At 1 km/h that takes
 # 400302.289 ms; so 1 step at 50 km/h 8006.05 ms, at 30 km/h 13343.41, at 15 km/h 26686.82, at 30 mph (48.28032 km/h)
@@ -93,7 +98,7 @@ class NetworkCase(ToolCase):
 
 class Village(NetworkCase):
     def test_arcs_are_those_of_the_drawing(self):
-        self.convert()
+        self.convert("--at-least", "0.92")
         self.assertEqual(self.drawn(), arcs_by_time(DRAWING))
 
     def test_islands_are_kept_where_asked_for(self):
@@ -352,3 +357,59 @@ class BadInput(NetworkCase):
         told = self.run_tool("osm_to_gr", "--help").stdout
         for word in ("MAP", "OUT", "--profile", "--weight", "--longest-arc", "--keep-islands", "turn restrictions"):
             self.assertIn(word, told)
+
+
+def converted(folder, *ways):
+    """What is said of a map of ways from 1 to 2 with these tags, of which each is a primary road, and their arcs."""
+    lines = ["<node id='1' lon='0' lat='0'/><node id='2' lon='0.001' lat='0'/>"]
+    for number, way in enumerate(ways, 1):
+        tags = "".join(f"<tag k='{key}' v='{value}'/>" for key, value in {"highway": "primary", **way}.items())
+        lines.append(f"<way id='{number}'><nd ref='1'/><nd ref='2'/>{tags}</way>")
+    text = MAP.format("".join(lines))
+    (folder / "map.osm").write_text(text, encoding="utf-8")
+    said = run_tool("osm_to_gr", folder / "map.osm", folder / "map")[1].splitlines()
+    return said, domethyme.Network(folder / "map").arcs_frame().drop_duplicates("osm")
+
+
+def test_texts_of_roads(tmp_path):
+    """Each column has its own tag, without blanks around; a road without a name is called by its ref."""
+    bridge = {"tunnel": "no", "bridge": "viaduct", "toll": "no"}
+    _, arcs = converted(
+        tmp_path, {"name": " A  B ", "ref": "B1", "destination": "X;Y", "junction": " j ", **bridge},
+        {"ref": "M2", "tunnel": "passage", "bridge": "yes", "toll": "yes", "duration": "5"}, {"name": "\u2003", "ref": "B3", "toll": "hgv"},
+    )
+    assert arcs[["name", "ref", "destination", "junction", "structure", "toll"]].to_numpy().tolist() == [
+        ["A B", "B1", "X;Y", "j", "bridge", ""], ["M2", "M2", "", "", "tunnel", "yes"], ["B3", "B3", "", "", "", ""],
+    ]
+    assert arcs["seconds"].tolist() == [5.719] * 3  # (a duration is a ferry's alone)
+
+
+@pytest.mark.parametrize("count, shown", [
+    (10, "s0 2, s1 1, s2 1, s3 1, s4 1, s5 1, s6 1, s7 1, s8 1, s9 1): 11"),
+    (11, "s0 2, s1 1, s2 1, s3 1, s4 1, s5 1, s6 1, s7 1, s8 1, s9 1, ...): 12"),
+])
+def test_values_that_are_not_understood(tmp_path, count, shown):
+    said, _ = converted(tmp_path, *({"maxspeed": f"s{number}"} for number in range(count)), {"maxspeed": "s0"})
+    assert f"osm_to_gr: maxspeeds that weren't understood ({shown}" in said
+
+
+def test_rules_that_are_not_looked_at(tmp_path):
+    """Ways are counted once, for the conditions that concern the vehicle."""
+    said, _ = converted(
+        tmp_path, {"access:conditional": "no @ (1-2)", "maxspeed:conditional": "5 @ wet"}, {"oneway:conditional": "yes @ (1-2)"},
+        {"maxspeed:forward:conditional": "5 @ wet"}, {"bicycle:conditional": "no @ wet", "access": "agricultural; destination"},
+    )
+    assert set(said[:2]) == {
+        "osm_to_gr: ways with rules for some times or conditions, which aren't looked at: 3",
+        "osm_to_gr: ways for destinations alone that are taken as open: 1",
+    }
+
+
+@pytest.mark.parametrize("read, texts, wrong", [
+    (longest_arc, ("1", "1000000"), ("0.99", "1000000.5", "nan", "x")), (share, ("0", "1"), ("-0.01", "1.01", "nan", "x")),
+])
+def test_numbers_of_options(read, texts, wrong):
+    assert [read(text) for text in texts] == [float(text) for text in texts]
+    for text in wrong:
+        with pytest.raises(argparse.ArgumentTypeError, match=f"{text} isn't from {texts[0]} to {texts[1]}"):
+            read(text)

@@ -54,6 +54,9 @@ def options_of(words: Mapping[str, Any]) -> Options:
     if unknown := [name for name in words if name not in known]:
         raise ValueError(f"there is no option {unknown[0]}: there are {', '.join(known)}")
     options = Options(**words)
+    for name in ("weight", "attribution"):
+        if not isinstance(getattr(options, name), str):
+            raise ValueError(f"{name} {getattr(options, name)!r} is no text")
     if options.weight not in WEIGHTS:
         raise ValueError(f"weight {options.weight!r} is none of {', '.join(WEIGHTS)}")
     for name in ("longest_arc", "at_least"):
@@ -136,7 +139,7 @@ def text_rows(ways: WayArrays) -> RowsOf:
 
     def rows_of(used: NDArray[np.int64]) -> Iterator[tuple[str, ...]]:
         for tags, name, ref, destination in ways.labels[used].tolist():
-            named = {"name": texts[name if ways.texts[name] else ref], "ref": texts[ref], "destination": texts[destination]}
+            named = {"name": texts[name] or texts[ref], "ref": texts[ref], "destination": texts[destination]}
             row = of_tags[tags] | named
             yield tuple([row[column] for column in TEXTS])
 

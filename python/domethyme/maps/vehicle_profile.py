@@ -261,7 +261,7 @@ def maxspeed_of(text: str, profile: Profile) -> float | None:
 def unsupported_tags(tags: Tags, profile: Profile) -> Iterator[tuple[str, bool]]:
     """What of a way's rules isn't looked at, in the words of the report, and whether it is so."""
     access = first_value(tags, reversed(profile.access)) or ""
-    yield "ways for destinations alone that are taken as open", "destination" in access.split(";")
+    yield "ways for destinations alone that are taken as open", "destination" in map(str.strip, access.split(";"))
     conditional = any(key.endswith(":conditional") and key.startswith(conditional_keys(profile)) for key in tags)
     yield "ways with rules for some times or conditions, which aren't looked at", conditional
 
