@@ -19,7 +19,7 @@ from domethyme.network import from_tables, net_file, parallel, table_files
 from domethyme.network.columns import UNITS
 
 # A compiler that writes the program to the path behind -o
-BUILT = '#!/bin/sh\nwhile [ "$1" != -o ]; do shift; done\ncp program "$2"\nchmod +x "$2"\n'
+BUILT = '#!/bin/sh\necho "$@" >words\nwhile [ "$1" != -o ]; do shift; done\ncp program "$2"\nchmod +x "$2"\n'
 
 
 class ProgramCase(ToolCase):
@@ -77,8 +77,11 @@ class BuildTests(ProgramCase):
 
     def test_it_is_built_once_for_its_source(self):
         self.put_compiler("#!/bin/sh\nexit 3\n")
+        self.put("dpkg-buildflags", '#!/bin/sh\necho "-D$2=$DEB_BUILD_MAINT_OPTIONS"\n')
         built = self.run_program([*self.command, "build_converter"], environment=self.environment).stdout.strip()
         (self.programs / "g++").unlink()
+        for name in ("CPPFLAGS", "CXXFLAGS", "LDFLAGS"):
+            self.assertIn(f"-D{name}=hardening=+all ", (self.folder / "words").read_text())
         self.assertEqual(
             self.run_program([*self.command, "build_converter"], environment=self.environment).stdout.strip(), built
         )
@@ -89,8 +92,11 @@ class BuildTests(ProgramCase):
     def test_a_folder_that_can_not_be_written(self):
         self.put_compiler("#!/bin/sh\nexit 3\n")
         (self.copy / "domethyme/maps/converter/built").write_text("no folder", encoding="utf-8")
-        built = self.run_program([*self.command, "build_converter"], environment=self.environment).stdout.strip()
-        self.assertEqual(os.path.dirname(built), str(self.folder / "home/.cache/domethyme"))
+        for cache, more in (("home/.cache", {}), ("cache", {"XDG_CACHE_HOME": str(self.folder / "cache")})):
+            built = self.run_program([*self.command, "build_converter"], environment={**self.environment, **more}).stdout.strip()
+            self.assertEqual(os.path.dirname(built), str(self.folder / cache / "domethyme"))
+        self.environment["XDG_CACHE_HOME"] = str(self.folder / "program")  # (a file)
+        self.refused("program/domethyme: can't be written, and the converter has to be built there")
 
 
 class FailureTests(ProgramCase):

@@ -1,10 +1,12 @@
 """Tests of the profiles of vehicles, of the members that a profile may have, and of penalties of turns."""
 import json
+import re
 import unittest
 
 from test_turns import STEP, crossing
 from tool_case import VILLAGE, ToolCase, read_rows
 
+from domethyme.errors import MapError
 from domethyme.maps.turn_restrictions import Member, restrictions_of
 from domethyme.maps.vehicle_profile import PROFILES, blocks_way, judge, limit_of, read_profile, way_keys
 
@@ -30,6 +32,8 @@ WAYS = {
         ("highway=primary maxspeed=DE:zone:30", 30, 30), ("highway=primary maxspeed=NL:zone60", 60, 60),
         ("highway=primary maxspeed=DE:variable", 70, 70), ("highway=primary maxspeed=0", 70, 70),
         ("highway=primary maxspeed=1001", 70, 70), ("highway=primary maxspeed=-50", 70, 70),
+        ("highway=primary maxspeed=1", 1, 1), ("highway=primary maxspeed=1000", 1000, 1000),
+        ("highway=primary maxspeed=~50~", 50, 50),
         ("highway=primary maxspeed:forward=40", 40, 70),
         ("highway=primary maxspeed=60 maxspeed:backward=20~mph", 60, 32.18688),
         ("highway=primary oneway=yes maxspeed:backward=40", 70, None), ("highway=primary access=no", None, None),
@@ -44,11 +48,13 @@ WAYS = {
         ("highway=primary access=no bicycle=yes", None, None), ("highway=primary motor_vehicle=forestry", None, None),
         ("highway=primary motor_vehicle=agricultural;forestry", None, None),
         ("highway=primary motor_vehicle=agricultural;destination", 70, 70),
+        ("highway=primary motor_vehicle=forestry;~private", None, None),
         ("highway=primary motor_vehicle:conditional=no~@~(22:00-06:00)", 70, 70),
     ],
     "lorry": [
         ("highway=primary", 60, 60), ("highway=motorway", 80, None), ("highway=motorway maxspeed=120", 80, None),
         ("highway=primary maxspeed=70 maxspeed:hgv=50", 50, 50),
+        ("highway=primary maxspeed:forward=70 maxspeed:hgv=50", 50, 50),
         ("highway=primary maxspeed=70 maxspeed:hgv:forward=30", 30, 70), ("highway=primary hgv=no", None, None),
         ("highway=primary hgv=destination", 60, 60), ("highway=primary hgv=delivery", 60, 60),
         ("highway=primary motor_vehicle=no hgv=yes", 60, 60), ("highway=primary motorcar=no", 60, 60),
@@ -73,7 +79,8 @@ WAYS = {
         ("highway=residential oneway=yes cycleway:right=lane", 17, None),
         ("highway=residential oneway=yes cycleway:left:oneway=-1", 17, 17),
         ("highway=primary junction=roundabout", 16, None), ("highway=motorway", None, None), ("highway=trunk", None, None),
-        ("highway=trunk bicycle=yes", 16, 16), ("highway=primary motorroad=yes", None, None),
+        ("highway=trunk bicycle=yes", 16, 16), ("highway=trunk vehicle=yes", None, None),
+        ("highway=primary motorroad=yes", None, None),
         ("highway=primary motorroad=no", 16, 16), ("highway=footway", None, None), ("highway=footway bicycle=yes", 6, 6),
         ("highway=footway bicycle=no", None, None), ("highway=cycleway bicycle=dismount", None, None),
         ("highway=primary bicycle=use_sidepath", None, None), ("highway=residential vehicle=no", None, None),
@@ -126,7 +133,7 @@ class VehicleTests(unittest.TestCase):
         cases = [
             ({"restriction": "no_left_turn"}, "car lorry bicycle"),
             ({"restriction": "no_left_turn", "except": "bicycle"}, "car lorry"),
-            ({"restriction": "no_left_turn", "except": "motor_vehicle"}, "bicycle"),
+            ({"restriction": "no_left_turn", "except": "psv; motor_vehicle"}, "bicycle"),
             ({"restriction:hgv": "no_left_turn"}, "lorry"),
             ({"restriction:bicycle": "no_left_turn"}, "bicycle"),
             ({"restriction:foot": "no_left_turn"}, "foot"),
@@ -143,10 +150,12 @@ class VehicleTests(unittest.TestCase):
     def test_limits(self):
         cases = [
             ("maxheight", "3.5", 3.5), ("maxheight", " 3.5 m", 3.5), ("maxheight", "11'6\"", 3.5052),
+            ("maxheight", "11' 6.5\"", 3.5179),
             ("maxheight", "12'", 3.6576), ("maxheight", "12 ft", 3.6576),
-            ("maxheight", "none", float("inf")), ("maxheight", "3,5", None), ("maxheight", "3.5 t", None),
+            *(("maxheight", word, float("inf")) for word in ("none", "no", "default", "unsigned", "no_sign", "unspecified")),
+            ("maxheight", "3,5", None), ("maxheight", "3.5 t", None),
             ("maxweight", "3.5 t", 3.5), ("maxweight", "3.5 m", None), ("maxaxleload", "8", 8),
-            ("maxweight", "10 lt", 10.160469088), ("maxweight", "22000 lbs", 9.97903214),
+            ("maxweight", "10 lt", 10.160469088), ("maxweight", "22000 lbs", 9.97903214), ("maxweight", "100 cwt", 5.080234544),
         ]
         for key, text, wanted in cases:
             found = limit_of(key, text)
@@ -169,11 +178,14 @@ class MemberTests(ToolCase):
             ({"turns": {"around": 5}}, "turns isn't hundredths of a second from 0 to 360000 by the words left, right, back"),
             ({"turns": {"left": 1.5}}, "turns isn't hundredths"),
             ({"turns": {"left": -1}}, "turns isn't hundredths"),
+            ({"turns": {"left": 360001}}, "turns isn't hundredths"), ({"turns": {"back": True}}, "turns isn't hundredths"),
             ({"turns": [5]}, "turns isn't hundredths"),
-            ({"fastest": 0}, "fastest isn't a speed from 1 to 1000"),
+            ({"fastest": 0}, "fastest isn't a speed from 1 to 1000"), ({"fastest": float("nan")}, "fastest isn't"),
+            ({"speeds": {"primary": 1001}}, "speeds isn't speeds from 1 to 1000 by names: primary is 1001"),
             ({"measures": {"maxheight": "4"}}, "measures isn't measures in metres or tonnes by names: maxheight is \"4\""),
             ({"surfaces": {"mud": 0}}, "surfaces isn't speeds"),
             ({"both_ways": ["cycleway"]}, "both_ways isn't a list of words KEY=VALUE"),
+            ({"both_ways": ["a=b=c"]}, "both_ways isn't a list of words KEY=VALUE"),
             ({"closed_by": "motorroad=yes"}, "closed_by isn't a list of words KEY=VALUE"),
             ({"oneway": "oneway"}, "oneway isn't a list of words"),
             ({"restrictions": [1]}, "restrictions isn't a list of words"),
@@ -181,7 +193,10 @@ class MemberTests(ToolCase):
         for members, says in cases:
             with self.subTest(says):
                 self.own(**members)
-                self.assert_refused("osm_to_gr", VILLAGE, "out", "--profile", "own.json", says=f"own.json: {says}")
+                with self.assertRaisesRegex(MapError, re.escape(f"own.json: {says}")):
+                    read_profile(str(self.folder / "own.json"))
+        (self.folder / "own.json").write_bytes(b'{"about": "\xe9"}')
+        self.assert_refused("osm_to_gr", VILLAGE, "out", "--profile", "own.json", says="own.json: isn't UTF-8")
 
     def test_restrictions_of_the_profile(self):
         self.write("map.osm", crossing((2, 3, {"restriction": "no_left_turn"}), (3, 4, {"restriction:foot": "no_left_turn"})))
@@ -251,9 +266,9 @@ class PenaltyTests(ToolCase):
         self.assertEqual(found, {("1", 0), ("1", 5), ("1", 20), ("2", 0), ("2", 2), ("2", 20)})
 
     def test_a_bend_is_no_turn_and_a_hairpin_is_one(self):
-        # a road of three ways: at 2 it bends by 40 degrees, at 3 it turns by 100 degrees to the right
-        places = {1: (0, 0), 2: (1, 0), 3: (1.766, 0.643), 4: (2.266, -0.223)}
-        nodes = "".join(f"<node id='{node}' lon='{x / 1000:.6f}' lat='{y / 1000:.6f}'/>" for node, (x, y) in places.items())
+        # a road of three ways over the 180th meridian: at 2 it bends by 40 degrees, at 3 it turns by 100 degrees to the right
+        places = {1: (179.9995, 0), 2: (-179.9995, 0), 3: (-179.998734, 0.000643), 4: (-179.998234, -0.000223)}
+        nodes = "".join(f"<node id='{node}' lon='{lon}' lat='{lat:.6f}'/>" for node, (lon, lat) in places.items())
         tags = "<tag k='highway' v='residential'/><tag k='oneway' v='yes'/>"
         ways = "".join(f"<way id='{node}'><nd ref='{node}'/><nd ref='{node + 1}'/>{tags}</way>" for node in (1, 2, 3))
         self.write("map.osm", f"<osm version='0.6'>{nodes}{ways}</osm>")

@@ -1,10 +1,12 @@
 """Tests of networks of one's own: from tables and DIMACS files to the graph, the network and answers. A thousandth of a degree is
 111.195 m along the equator."""
+import argparse
 import json
 import math
 import os
 
 import numpy as np
+import pytest
 from draws import drawn
 from hypothesis import given
 from hypothesis import strategies as st
@@ -15,6 +17,7 @@ import domethyme
 from domethyme.csv_tables import escape_formula, unescape_formula
 from domethyme.network import net_file
 from domethyme.network.columns import NO_OSM
+from domethyme_tools.to_network import mark
 
 NODES = "node,lon,lat\ndepot,0,0\nshop,0.001,0\nfarm,0.001,0.002\n"
 ARCS = """\
@@ -34,6 +37,13 @@ def test_texts_that_sheets_take_for_formulas(text):
     assert shown in (text, "'" + text) and unescape_formula(shown) == text
     if shown[:1] in tuple("=+-@\t\r"):
         assert math.isfinite(float(shown)), shown
+
+
+def test_marks():
+    assert [mark(text) for text in ("tab", "\\t", "\t", ";", "|", " ")] == ["\t", "\t", "\t", ";", "|", " "]
+    for text in ("", ";;", "a", "5", "é", '"', "\n", "\r"):
+        with pytest.raises(argparse.ArgumentTypeError, match="is no mark"):
+            mark(text)
 
 
 class TableTests(ToolCase):

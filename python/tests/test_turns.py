@@ -1,7 +1,9 @@
 """Tests of turn restrictions: the nodes of a crossing, relations of all kinds, and a search over turns."""
+import collections
+
 from tool_case import VILLAGE, ToolCase, read_rows
 
-from domethyme.maps.turn_restrictions import Member, Restriction, restrictions_of
+from domethyme.maps.turn_restrictions import Member, Restriction, applicable_rules, restrictions_of
 from domethyme.network.columns import ENDS
 from domethyme.network.from_tables import read_nodes
 
@@ -29,12 +31,13 @@ def crossing(*restrictions):
 
 class CrossingTests(ToolCase):
     def test_no_turn(self):
-        """A crossing where who comes from the west may not turn north: what is said, and its nodes."""
-        self.write("map.osm", crossing((2, 3, {"restriction": "no_left_turn"})))
-        said = self.run_tool("osm_to_gr", "map.osm", "map", "--tables").stderr
-        self.assertIn("osm_to_gr: junctions split by turn restrictions: 1\n", said)
-        # 4 arcs to the crossing lead to 2 nodes each; 4 lead on from where routes begin, and 3 for who came from the west
-        self.assertIn("osm_to_gr: map: 7 nodes, 15 arcs, 0.4 km of road\n", said)
+        """A crossing where who comes from the west, or from the east too, may not turn north: what is said, and its nodes."""
+        for starts in ((2, 4), (2,)):
+            self.write("map.osm", crossing(*((start, 3, {"restriction": "no_left_turn"}) for start in starts)))
+            said = self.run_tool("osm_to_gr", "map.osm", "map", "--tables").stderr
+            self.assertIn("osm_to_gr: junctions split by turn restrictions: 1\n", said)
+            # 4 arcs to the crossing lead to 2 nodes each; 4 lead on from where routes begin, and 3 for who may not turn
+            self.assertIn("osm_to_gr: map: 7 nodes, 15 arcs, 0.4 km of road\n", said)
         self.assertEqual(sorted(node.ends for node in read_rows(self.folder / "map.nodes.csv")), ["", "", "", "", "from", "no", "to"])
         rows = (self.folder / "map.nodes.csv").read_text().splitlines()
         self.write("older.csv", "\n".join(row.rpartition(",")[0] for row in rows) + "\n")  # (without the column ends)
@@ -52,16 +55,26 @@ class RelationTests(ToolCase):
             self.assertEqual(self.told({"restriction": value}, *by_node), ([Restriction(1, 2, 3, only)], None))
         self.assertEqual(self.told({"restriction:motorcar": "no_entry", "restriction": "give_way"}, *by_node)[0],
                          [Restriction(1, 2, 3, False)])
-        self.assertEqual(self.told({"restriction": "no_entry"}, *by_node, ("w", 4, "from"))[0],
+        self.assertEqual(self.told({"restriction": "no_entry"}, *by_node, ("w", 4, "from"), ("n", 5, "from"), ("r", 6, "to"))[0],
                          [Restriction(1, 2, 3, False), Restriction(4, 2, 3, False)])
         for tags, members, reason in [
             ({"restriction": "stop"}, by_node, "of another kind"),
             ({"restriction:conditional": "no_u_turn @ (1-2)"}, by_node, "at times only"),
             ({"restriction": "no_u_turn"}, (by_node[0], ("w", 2, "via"), by_node[2]), "not by one node"),
             ({"restriction": "no_u_turn"}, (by_node[0], by_node[2]), "not by one node"),
+            ({"restriction": "no_u_turn"}, (*by_node, ("n", 4, "via")), "not by one node"),
         ]:
             self.assertEqual(self.told(tags, *members), ([], f"turn restrictions not looked at: {reason}"))
         self.assertEqual(restrictions_of({"type": "route"}, [], CAR), ([], None))
+
+    def test_which_have_an_effect(self):
+        """Of ways that end at the node, and of which the first is taken; into one that isn't taken those that allow it alone."""
+        kept = [Restriction(1, 9, 2, False), Restriction(2, 9, 2, True), Restriction(1, 9, 5, True)]
+        others = [Restriction(1, 9, 5, False), Restriction(5, 9, 1, True), Restriction(1, 8, 2, False), Restriction(1, 7, 2, True)]
+        report = collections.Counter()
+        self.assertEqual(applicable_rules([*others, *kept], {1: (7, 9), 2: (9, 3)}.get, report), {9: kept})
+        self.assertEqual([*report.values()], [2, 2])
+        self.assertIn("turn restrictions without effect, of ways that are left out", report)
 
 
 class ComparisonTests(ToolCase):
