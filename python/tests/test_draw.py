@@ -4,13 +4,16 @@ import base64
 import hashlib
 import html.parser
 import json
+import math
 import re
 import xml.etree.ElementTree as xml
+from unittest import mock
 
+import pytest
 from draws import run_tool
 from tool_case import ToolCase, contrast
 
-from domethyme.drawing import geometry
+from domethyme.drawing import geometry, picture, roads, routes
 
 # High Street has two directions, and Far Road lies two hundredths of a degree in the north.
 ARCS = """\
@@ -102,6 +105,26 @@ class Picture(DrawCase):
         self.assertEqual(self.picture_of(route("stay", [[0, 0], [0, 0]])).findall("./g[@clip-path]/path[@fill]"), [])
         self.assertEqual(len(self.picture_of(*[EAST] * 20).findall("./g[@clip-path]/path[@fill]")), 20)
         self.assertEqual(self.picture_of(*[EAST] * 21).findall("./g[@clip-path]/path[@fill]"), [])
+        # One that is 71 pixels long has none, as that at 65 would lie below its dot.
+        short = route("short", [[0, 0], [0.000005, 0], [0.0006, 0]])
+        self.assertEqual(len(self.picture_of(EAST, short).findall("./g[@clip-path]/path[@fill]")), 1)
+        # Points that are less than 1.5 pixels from the one before are drawn where routes have arrows.
+        for count, line in ((18, "l0.6 0 70.9 0"), (20, "l71.5 0")):
+            drawn = self.picture_of(EAST, *[short] * count).findall("./g[@clip-path]/g/path")[-1].get("d")
+            self.assertTrue(drawn.endswith(line), drawn)
+
+    def test_pixels_of_other_places(self):
+        """A route that leads to the north, up; and one at 60 degrees north, where 200 m are 0.0035973 degrees of longitude."""
+        picture = self.picture_of(route("n", [[0, 0], [0, 0.004]]))
+        self.assertEqual((picture.get("width"), picture.get("height")), ("714", "1000"))
+        self.assertEqual(picture.find("./g[@clip-path]/g/path").get("d"), "M357 737.9l0 -476.2")
+        self.write("net.nodes.csv", NODES.replace(",0\n", ",60\n").replace(",0.02\n", ",60.02\n"))
+        self.write("net.arcs.csv", ARCS.replace(" 0,", " 60,").replace(" 0)", " 60)").replace(" 0.02", " 60.02"))
+        picture = self.picture_of(route("n", [[0, 60], [0.004, 60]]))
+        self.assertEqual(roads_in(picture), {"1.8": 1, "3": 1})
+        self.assertEqual(picture.find("./g[@clip-path]/g/path").get("d"), "M333.3 333.3l333.4 0")
+        _, data = self.page_of(route("n", [[0.004, 60], [0, 60.004]]))
+        self.assertEqual((data["bounds"], data["routes"][0]["ends"]), ([[60, 0], [60.004, 0.004]], [4000, 60000000, -4000, 4000]))
 
     def test_scale(self):
         # A pixel is 0.0083973 * 111195 / 1000 = 0.93374 m, so a fifth is 187 m, and 100 m are 107.1 pixels.
@@ -122,8 +145,15 @@ class Picture(DrawCase):
 
     def test_roads(self):
         self.assertEqual(roads_in(self.picture_of(EAST)), {"1.8": 1, "3": 1})
-        self.assertEqual(roads_in(self.picture_of(EAST, words=["--full-network"])), {"1.2": 1, "1.8": 1, "3": 1})
-        self.assertEqual(roads_in(self.picture_of(NO_WAY)), {"1.2": 1, "1.8": 1, "3": 1})
+        whole = roads_in(self.picture_of(NO_WAY))
+        self.assertEqual([*whole.items()], [("1.2", 1), ("1.8", 1), ("3", 1)])  # (the least important below)
+        for most, width in ((7, "0"), (6, "1.8"), (5, "1.8"), (4, "3")):
+            with mock.patch.object(roads, "MAX_POINTS", most):
+                shown = roads_in(self.picture_of(EAST, words=["--full-network"]))
+                self.assertEqual(shown, {each: 1 for each in whole if each >= width})
+                self.assertEqual([len(kind["lines"]) for kind in self.page_of(NO_WAY)[1]["roads"]], [1, 1, 0, 1, 0])
+        self.widen()  # (a road whose ends are far away)
+        self.assertEqual(roads_in(self.picture_of(route("on", [[0.0079, 0.02], [0.0081, 0.02]]))), {"1.2": 1})
 
     def test_legend_and_titles(self):
         picture = self.picture_of(EAST, WEST, NO_WAY)
@@ -136,6 +166,8 @@ class Picture(DrawCase):
     def test_numbers_for_labels(self):
         picture = self.picture_of(EAST, WEST, words=[])
         self.assertEqual([told(text) for text in picture.findall("./g[@transform]/text")][::2], ["route 1", "route 2"])
+        for label, shown in ((7, "7"), ("x" * 48, "x" * 48), ("x" * 49, "x" * 47 + "…")):
+            self.assertEqual(told(self.picture_of(route(label, [[0, 0], [0.004, 0]])).find("./g[@transform]/text")), shown)
 
     def test_long_legend(self):
         # Without a line the whole network is shown, as high as it is wide. Three fifths of 1000 pixels are 25 rows of 24.
@@ -188,7 +220,7 @@ class Picture(DrawCase):
         self.write("net.arcs.csv", rows)
         dashes = {path.get("stroke-width"): path.get("stroke-dasharray") for path in
                   self.picture_of(EAST).findall("./g[@clip-path]/path") if path.get("stroke") != "#fff"}
-        self.assertEqual(dashes, {"3": "5 4", "1.8": None})
+        self.assertEqual([*dashes.items()], [("3", "5 4"), ("1.8", None)])  # (below the others)
         _, data = self.page_of(EAST)
         self.assertEqual([kind["dashes"] for kind in data["roads"]], [None] * 5 + ["5 4"])
 
@@ -242,7 +274,9 @@ class Picture(DrawCase):
     def test_lines_and_collection_are_one(self):
         self.picture_of(EAST, NO_WAY)
         before = (self.folder / "out.svg").read_text()
-        lines = f"{json.dumps(EAST)}\n{json.dumps(NO_WAY)}\n"
+        line = [[*place, 7.5] for place in EAST["geometry"]["coordinates"]]
+        high = {**EAST, "geometry": {"type": "MultiLineString", "coordinates": [line[:2], line[1:]]}}
+        lines = f"\ufeff{json.dumps(high)}\n{json.dumps(NO_WAY)}\n"
         self.run_tool("draw", "net", "-", "out.svg", "--label", "trip", given=lines)
         self.assertEqual((self.folder / "out.svg").read_text(), before)
 
@@ -304,12 +338,14 @@ class Page(DrawCase):
         self.assertEqual(page.policies, [f"default-src 'none'; script-src {scripts}; style-src {styles}; img-src data:"])
         self.assertEqual(page.addresses, ["data:,"])
         self.assertNotIn("sourceMappingURL", text)
-        self.assertIsNone(data["tiles"])
+        self.assertEqual((data["tiles"], data["mostWithArrows"]), (None, 20))
 
     def test_names_are_no_tags(self):
         text, _ = self.page_of(EAST)
         self.assertEqual(text.count("</script"), 3)
         self.assertIn("<title>&lt;/script&gt; &lt;b&gt;&quot;A&quot; &amp; &#x27;B&#x27;&lt;/b&gt;</title>", text)
+        self.assertIn("<title>west, nowhere, west</title>", self.page_of(WEST, NO_WAY, WEST, EAST)[0])
+        self.assertIn("<title>Roads</title>", self.page_of(words=[])[0])
 
     def test_notice_of_leaflet(self):
         text, _ = self.page_of(EAST)
@@ -377,7 +413,8 @@ class BadInput(DrawCase):
             (7, "has no properties"), ({"type": "Feature", "geometry": None}, "has no properties"),
             (point, "has no line of places"), (route("a", [[0, 0]]), "has no line of places"),
             (route("a", [[0, 0], [0, 91]]), "has no line of places"),
-            (route("a", [[0, 0], [0, float("nan")]]), "has no line of places"),
+            *((route("a", [[0, 0], place]), "has no line of places") for place in ([0, float("nan")], [-181, 0], [True, 0])),
+            (route("a", ACROSS, steps=[{"name": "A"}]), "has no number metres"),
             (route("a", [[0, 0], [0, 1]], metres="far"), "has no number metres"),
             (route("a", [[0, 0], [0, 1]], metres=-1), "has no number metres"),
             (route("a", [[0, 0], [0, 1]], seconds=10**400), "has no number seconds"),
@@ -388,7 +425,8 @@ class BadInput(DrawCase):
 
     def test_routes_of_another_network(self):
         """One that lies elsewhere is refused, whichever it is; one that is beside a road isn't."""
-        for line in ([[9.5, 47.1], [9.6, 47.2]], [[0, 0], [0.3, 0]], [[-0.1, 0.01], [0, 0.01]]):
+        near = [[lon, lat] for lon, lat in ((-0.0011, 0), (0.0051, 0), (0, -0.0011), (0, 0.0211))]
+        for line in ([[9.5, 47.1], [9.6, 47.2]], *([place, [0, 0]] for place in near)):
             routes = self.routes(EAST, route("far", line))
             says = "feature 2 leads by .*, and the roads of net are from 0.0000,0.0000 to 0.0040,0.0200: is it of another network"
             with self.subTest(line=line):
@@ -396,7 +434,7 @@ class BadInput(DrawCase):
                 ended = self.run_tool("draw", "net", routes, "out.svg", status=1)
                 self.assertRegex(ended.stderr, says)
                 self.assertEqual(self.contents(), before)
-        self.run_tool("draw", "net", self.routes(route("beside", [[0.0045, -0.0003], [0.004, 0]])), "out.svg")
+        self.run_tool("draw", "net", self.routes(route("beside", [[0.0049, -0.0009], [-0.0009, 0.0209]])), "out.svg")
 
     def test_label(self):
         self.assert_routes_refused(json.dumps(EAST), ": feature 1 has no property name", "--label", "name")
@@ -423,7 +461,8 @@ class BadInput(DrawCase):
             [], ["net", routes], ["net", routes, "out.png"], ["net", routes, "-"],
             ["net", routes, "out.svg", "--width", "0"], ["net", routes, "out.svg", "--width", "wide"],
             ["net", routes, "out.html", "--width", "500"], ["net", routes, "out.svg", "--tiles", "{z}/{x}/{y}"],
-            ["net", routes, "out.html", "--tiles", "https://tiles.example"]
+            ["net", routes, "out.svg", "--width", "199"], ["net", routes, "out.svg", "--width", "10001"],
+            *(["net", routes, "out.html", "--tiles", f"https://tiles.example/{part}"] for part in ("{z}/{x}", "{z}/{y}", "{x}/{y}"))
         ]:
             self.assertEqual(self.run_tool("draw", *words, status=2).stdout, "")
         self.assertIn("--tiles", self.run_tool("draw", "--help").stdout)
@@ -432,21 +471,18 @@ class BadInput(DrawCase):
 class Geometry(ToolCase):
     def test_mercator(self):
         # By the projection of web maps 45 degrees north lie at log(1 + sqrt(2)) / (2 pi) = 0.140275 above the middle.
-        (west, equator), (middle, north), (east, south) = geometry.to_mercator([(-180, 0), (0, 45), (180, -90)])
+        (west, equator), (middle, north), (east, south), (_, pole) = geometry.to_mercator([(-180, 0), (0, 45), (180, -90), (0, 90)])
         self.assertEqual([west, equator, middle, east], [0, 0.5, 0.5, 1])
         self.assertAlmostEqual(north, 0.359725, 6)
         self.assertAlmostEqual(south, 1, 4)
+        self.assertAlmostEqual(pole, 0, 4)
+        for lon, lat in ((-180, 0), (20, 45), (179, -60)):
+            self.assertAlmostEqual(math.dist(geometry.from_mercator(*geometry.to_mercator([(lon, lat)])), (lon, lat)), 0)
 
     def test_pixel_on_the_ground(self):
         # At 60 degrees north a degree of longitude is half of 111195.08 m; the line is a tenth of a degree, in 100 pixels.
         view = geometry.View(geometry.box_of(geometry.to_mercator([(9, 60), (9.1, 60)])), 100)
         self.assertAlmostEqual(view.metres_of_a_pixel, 55.59754, 4)
-
-    def test_boxes_that_meet(self):
-        box = geometry.Box(0.25, 0.25, 0.5, 0.5)
-        self.assertTrue(box.meets(geometry.Box(0.5, 0, 1, 0.25)))
-        self.assertFalse(box.meets(geometry.Box(0.51, 0, 1, 1)))
-        self.assertFalse(box.meets(geometry.Box(0, 0.51, 1, 1)))
 
     def test_joined(self):
         self.assertEqual(geometry.join_lines([["a", "b"], ["b", "b", "c"], ["c", "a"]]), ["a", "b", "c", "a"])
@@ -472,7 +508,35 @@ class Geometry(ToolCase):
             self.assertAlmostEqual(found[0], place[0])
             self.assertAlmostEqual(found[1], place[1])
         self.assertEqual(geometry.point_at_fraction([(5, 6), (5, 6)], 0.5), (5, 6))
+        # At 60 degrees north the first part is half as long as the second one.
+        self.assertAlmostEqual(geometry.point_at_fraction([(0, 60), (1, 60), (1, 61)], 2 / 3)[1], 60.5)
 
     def test_scale_bars(self):
         found = [geometry.scale_bar_metres(metres) for metres in (1, 1.99, 4.9, 5, 999, 1000, 2500, 0.3)]
         self.assertEqual(found, [1, 1, 2, 5, 500, 1000, 2000, 0.2])
+        for degrees, said in ((0.04, "500 m"), (0.05, "1 km"), (0.5, "10 km")):  # (a fifth of 4.4, of 5.6 and of 55.6 km)
+            view = geometry.View(geometry.box_of(geometry.to_mercator([(0, 0), (degrees, 0)])), 1000)
+            self.assertIn(f">{said}</text>", "".join(picture.draw_foot("", view)))
+
+
+@pytest.mark.parametrize("metres, seconds, far, long, way", [
+    (999.4, 599.9, "1.00 km", "10.0 min", "999 m"), (999.5, 600, "1.00 km", "10 min", "1.00 km"),
+    (9999, 3569, "10.00 km", "59 min", "10.00 km"), (10_000, 3570, "10.0 km", "1 h 0 min", "10.0 km"),
+    (1e6, 90_060, "1000.0 km", "25 h 1 min", "1000.0 km"),
+])
+def test_figures(metres, seconds, far, long, way):
+    assert (routes.kilometres(metres), routes.minutes(seconds), routes.way_of(metres)) == (far, long, way)
+
+
+@pytest.mark.parametrize("contour, metric, fill, label, colour", [
+    (2.5, "time", "#Ab0123", "2.5 min", "#Ab0123"), ("7", "time", None, "area 2", None), (200, "distance", "red", "200 m", None),
+    (7, "weight", "#ab01234", "7", None),
+])
+def test_areas(contour, metric, fill, label, colour):
+    """Each is called by its contour, or else its number, and has its own colour, or else the next one, and all rings."""
+    properties = {"contour": contour, "metric": metric, "fill": fill}
+    ring = [[0, 0], [1, 0], [1, 1], [0, 0]]
+    shapes = [{"type": "Polygon", "coordinates": [ring]}, {"type": "MultiPolygon", "coordinates": [[ring, ring], [ring]]}]
+    first, second = routes.routes_of([{"properties": properties, "geometry": shape} for shape in shapes], "r", None)
+    assert (second.label, second.colour, len(first.rings), len(second.rings)) == (label, colour or routes.COLOURS[1], 1, 3)
+    assert first.colour == (colour or routes.COLOURS[0]) and first.figures == ""

@@ -118,11 +118,6 @@ class Box(NamedTuple):
         higher = max(0, self.width * least - self.height) / 2
         return Box(self.left - wider, self.top - higher, self.right + wider, self.bottom + higher)
 
-    def meets(self, other: "Box") -> bool:
-        """Whether the boxes have a point in common."""
-        beside = self.right < other.left or other.right < self.left
-        return not (beside or self.bottom < other.top or other.bottom < self.top)
-
 
 def box_of(points: Iterable[Point]) -> Box:
     """The least box around one or more points."""
