@@ -14,6 +14,8 @@ from draws import run_tool
 from tool_case import ToolCase, contrast
 
 from domethyme.drawing import geometry, picture, roads, routes
+from domethyme_tools.cli import ToolError
+from domethyme_tools.draw import page
 
 # High Street has two directions, and Far Road lies two hundredths of a degree in the north.
 ARCS = """\
@@ -351,6 +353,14 @@ class Page(DrawCase):
         text, _ = self.page_of(EAST)
         for part in ["Vladimir Agafonkin", "Redistributions in binary form", "EVEN IF ADVISED OF THE POSSIBILITY"]:
             self.assertEqual(text.count(part), 1, part)
+
+    def test_other_files_of_leaflet(self):
+        for name, path, says in (
+            ("LEAFLET", self.folder, "leaflet.css: isn't there: pages need Debian's package libjs-leaflet"),
+            ("LEAFLET_COPYRIGHT", self.folder / "net.nodes.csv", "net.nodes.csv: has Leaflet's licence in another form"),
+        ):
+            with mock.patch.object(page, name, path), self.assertRaisesRegex(ToolError, says):
+                self.page_of(EAST)
 
     def test_tiles_by_address(self):
         text, data = self.page_of(EAST, words=["--tiles", "https://tiles.example/{z}/{x}/{y}.png"])

@@ -1,5 +1,6 @@
 """The page that finds routes offline (domethyme_tools.page): its files, its rules beside those of the service, and in a browser."""
 import base64
+import contextlib
 import functools
 import gzip
 import hashlib
@@ -12,11 +13,15 @@ import pathlib
 import random
 import re
 import shutil
+import struct
 import subprocess
 
 import numpy as np
 import pytest
 from browser import Browser
+from draws import drawn
+from hypothesis import given
+from hypothesis import strategies as st
 from reach_case import Road, network as made_network
 from tool_case import PYTHON, ROOT, TOOLS, VILLAGE
 from web_case import built
@@ -33,12 +38,14 @@ from domethyme_service.tiles import Tiles
 from domethyme_tools.cli import ToolError
 from domethyme_tools.page import MOST_NODES
 from domethyme_tools.page.bundle import bundled
-from domethyme_tools.page.hierarchy import columns_of as columns_of_hierarchy
-from domethyme_tools.page.network import network_bytes, split_nodes
+from domethyme_tools.page.hierarchy import NO_MIDDLE, columns_of as columns_of_hierarchy
+from domethyme_tools.page.network import network_bytes, preferred, split_nodes
 
 PAGE = PYTHON / "domethyme_tools/page"
 DOCUMENT = ROOT / "docs/liechtenstein.html"
 SIZES = [(1280, 800), (390, 780), (820, 1180), (1920, 1080)]
+# Links of a hierarchy that are arcs: start, end, weight, arcs and middle.
+FIRST, SECOND = (0, 1, 5, 1, NO_MIDDLE), (1, 2, 7, 1, NO_MIDDLE)
 pytestmark = pytest.mark.xdist_group("page")
 
 
@@ -392,6 +399,8 @@ class TestTheCommand:
         (tmp_path / "t.nodes.csv").write_text("node,lon,lat\n1,0,0\n2,0.001,0\n")
         (tmp_path / "t.arcs.csv").write_text("from,to,oneway,weight\n1,2,0,5\n")
         run(TOOLS / "to_network", tmp_path / "t.nodes.csv", tmp_path / "t.arcs.csv", tmp_path / "n")
+        (tmp_path / "t.arcs.csv").write_text("from,to,oneway,weight\n1,2,0,6\n")
+        run(TOOLS / "to_network", tmp_path / "t.nodes.csv", tmp_path / "t.arcs.csv", tmp_path / "other")
         domethyme.prepare(tmp_path / "n.gr", tmp_path / "n.rch", workers=1).close()
         (tmp_path / "web").mkdir()
         (tmp_path / "web/domethyme.wasm").write_bytes(b"module")
@@ -413,13 +422,14 @@ class TestTheCommand:
             assert f"{kind}-src 'sha256-{digest}'" in policy
         assert "default-src 'none'" in policy and "connect-src" not in policy
         before = page
-        run(*words, "--library", folder / "web", "--compare-all")
+        run(*words, "--library", folder / "web", "--compare-all", DOMETHYME_WEB="none")
         assert (folder / "a.html").read_text(encoding="utf-8") == before
 
     @pytest.mark.parametrize("words, status, says", [
         (["n", "n.rch", "a.html", "--library", "none"], 1, "has no domethyme.wasm: packaging/build-web makes it"),
         (["n", "n.rch", "a.txt"], 2, "OUT doesn't end in .html"),
         (["n", "t.nodes.csv", "a.html", "--library", "web"], 4, "t.nodes.csv: is no file that `routecli prepare` wrote"),
+        (["other", "n.rch", "a.html", "--library", "web"], 1, "n.rch: is the hierarchy of another network than"),
         (["n.co", "n.rch", "a.html", "--library", "web"], 1, "has no roads but nodes"),
         (["none", "n.rch", "a.html", "--library", "web"], 1, "none"), (["n", "none.rch", "a.html", "--library", "web"], 7, "none.rch: No such file"),
     ])
@@ -430,13 +440,27 @@ class TestTheCommand:
 
     @pytest.mark.parametrize("change, says", [
         (lambda data: b"RCH1" + data[4:], "is no whole hierarchy file of version 2"), (lambda data: data[:-1], "is no whole hierarchy file"),
-        (lambda data: data + b"\0", "is no whole hierarchy file"), (lambda data: data[:32] + bytes(3) + b"\7" + data[36:], "aren't well made"),
-        (lambda data: data[:48] + bytes(3) + b"\2" + data[52:], "arcs that no graph has"),
-        (lambda data: data[:52] + bytes(4) + data[56:], "aren't well made"),
+        (lambda data: data + b"\0", "is no whole hierarchy file"),
     ])
     def test_hierarchies_that_are_refused(self, folder, change, says):
         with pytest.raises(HierarchyError, match=says):
             columns_of_hierarchy(change((folder / "n.rch").read_bytes()), "n.rch")
+
+    @pytest.mark.parametrize("links, says", [
+        ([FIRST, (0, 2, 12, 2, 1), SECOND], None), ([(0, 1, (1 << 32) - 1, 1, NO_MIDDLE)], None),
+        *((links, "aren't well made") for links in (
+            [FIRST, (0, 2, 13, 2, 1), SECOND], [FIRST, (0, 2, 12, 3, 1), SECOND], [FIRST, SECOND, (0, 2, 12, 2, 1)], [FIRST, FIRST],
+            [(0, 1, 5, 1, 2)], [(3, 1, 5, 1, NO_MIDDLE)], [(1, 3, 5, 1, NO_MIDDLE)], [(0, 1, 5, 1, 3)],
+        )),
+        ([FIRST, (0, 2, 5 + (1 << 32), 2, 1), (1, 2, 1 << 32, 1, NO_MIDDLE)], "arcs that no graph has"),
+        ([(0, 1, 5, 2, NO_MIDDLE)], "arcs that no graph has"),
+    ])
+    def test_links_that_are_refused(self, links, says):
+        """Of three nodes: those that are no sums of two others, that don't rise, or that lead to no node; and what no arc is."""
+        head = struct.pack(">4sIQQ3I", b"RCH2", 3, len(links), 0, 0, 1, 2)
+        data = head + b"".join(struct.pack(">IIQII", *link) for link in links)
+        with pytest.raises(HierarchyError, match=says) if says else contextlib.nullcontext():
+            columns_of_hierarchy(data, "n.rch")
 
     def test_a_network_that_is_too_large(self, folder, monkeypatch, capsys):
         from domethyme_tools import page
@@ -447,6 +471,24 @@ class TestTheCommand:
         with pytest.raises(ToolError, match="has 2 nodes, and a page has at most 1: a larger map needs a page that is served"):
             page.main()
         assert not (folder / "a.html").exists()
+        monkeypatch.setattr(page, "MOST_NODES", 2)
+        page.main()
+        assert (folder / "a.html").exists()
+
+
+@drawn(100)
+@given(st.lists(st.tuples(st.integers(0, 1), st.integers(0, 1), st.integers(1, 2)), max_size=8).flatmap(lambda arcs: st.tuples(
+    st.just(arcs), st.permutations(range(len(arcs))))))
+def test_arcs_of_one_weight(drawn_arcs):
+    """Of the lightest from one node to another those that are first in the file, where others are first in the page."""
+    arcs, numbers = drawn_arcs
+    wanted = set()
+    for ends in {arc[:2] for arc in arcs}:
+        least = min(arc for arc in arcs if arc[:2] == ends)
+        lightest = [place for place, arc in enumerate(arcs) if arc == least]
+        wanted |= {min(lightest, key=lambda place: numbers[place])} - {lightest[0]}
+    found = preferred(*np.array(arcs, np.int64).reshape(-1, 3).T, np.array(numbers, np.int64)).tolist()
+    assert set(found) == wanted and len(found) == len(wanted)
 
 
 @pytest.mark.parametrize("modules, says", [

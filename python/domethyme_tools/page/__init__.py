@@ -17,8 +17,8 @@ out/web of this repository.
 
 OUT.html is whole or not there.
 
-Exit status: 0; 1 for bad input or a failed write, with one line on standard error that names the file; 2 for arguments that are
-refused; 4 for a hierarchy that is damaged, or another network's; 7 for one that can't be opened.
+Exit status: 0; 1 for bad input, as another network's hierarchy, or a failed write, with one line on standard error that names the
+file; 2 for arguments that are refused; 4 for a hierarchy that is damaged; 7 for one that can't be opened.
 """
 import argparse
 import os
