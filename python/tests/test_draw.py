@@ -125,19 +125,9 @@ class Picture(DrawCase):
         picture = self.picture_of(route("n", [[0, 60], [0.004, 60]]))
         self.assertEqual(roads_in(picture), {"1.8": 1, "3": 1})
         self.assertEqual(picture.find("./g[@clip-path]/g/path").get("d"), "M333.3 333.3l333.4 0")
+        self.assertIn("h150.0v", picture.findall("path")[-1].get("d"))  # (100 m, of 0.66687 m in a pixel)
         _, data = self.page_of(route("n", [[0.004, 60], [0, 60.004]]))
         self.assertEqual((data["bounds"], data["routes"][0]["ends"]), ([[60, 0], [60.004, 0.004]], [4000, 60000000, -4000, 4000]))
-
-    def test_scale(self):
-        # A pixel is 0.0083973 * 111195 / 1000 = 0.93374 m, so a fifth is 187 m, and 100 m are 107.1 pixels.
-        picture = self.picture_of(EAST)
-        self.assertEqual(told(picture.findall("text")[-1]), "100 m")
-        self.assertIn("h107.1v", picture.findall("path")[-1].get("d"))
-
-    def test_width(self):
-        picture = self.picture_of(EAST, words=["--width", "800"])
-        self.assertEqual((picture.get("width"), picture.get("height")), ("800", "448"))
-        self.assertAlmostEqual(float(picture.find("./g[@clip-path]/circle").get("cx")), 209.4, delta=0.1)
 
     def test_a_narrow_picture(self):
         # The legend is below the map, 280 pixels high, with a margin below: a row of 24, and 14.
@@ -489,11 +479,6 @@ class Geometry(ToolCase):
         for lon, lat in ((-180, 0), (20, 45), (179, -60)):
             self.assertAlmostEqual(math.dist(geometry.from_mercator(*geometry.to_mercator([(lon, lat)])), (lon, lat)), 0)
 
-    def test_pixel_on_the_ground(self):
-        # At 60 degrees north a degree of longitude is half of 111195.08 m; the line is a tenth of a degree, in 100 pixels.
-        view = geometry.View(geometry.box_of(geometry.to_mercator([(9, 60), (9.1, 60)])), 100)
-        self.assertAlmostEqual(view.metres_of_a_pixel, 55.59754, 4)
-
     def test_joined(self):
         self.assertEqual(geometry.join_lines([["a", "b"], ["b", "b", "c"], ["c", "a"]]), ["a", "b", "c", "a"])
 
@@ -538,15 +523,14 @@ def test_figures(metres, seconds, far, long, way):
     assert (routes.kilometres(metres), routes.minutes(seconds), routes.way_of(metres)) == (far, long, way)
 
 
-@pytest.mark.parametrize("contour, metric, fill, label, colour", [
-    (2.5, "time", "#Ab0123", "2.5 min", "#Ab0123"), ("7", "time", None, "area 2", None), (200, "distance", "red", "200 m", None),
-    (7, "weight", "#ab01234", "7", None),
-])
-def test_areas(contour, metric, fill, label, colour):
+def test_areas():
     """Each is called by its contour, or else its number, and has its own colour, or else the next one, and all rings."""
-    properties = {"contour": contour, "metric": metric, "fill": fill}
     ring = [[0, 0], [1, 0], [1, 1], [0, 0]]
     shapes = [{"type": "Polygon", "coordinates": [ring]}, {"type": "MultiPolygon", "coordinates": [[ring, ring], [ring]]}]
-    first, second = routes.routes_of([{"properties": properties, "geometry": shape} for shape in shapes], "r", None)
-    assert (second.label, second.colour, len(first.rings), len(second.rings)) == (label, colour or routes.COLOURS[1], 1, 3)
-    assert first.colour == (colour or routes.COLOURS[0]) and first.figures == ""
+    for contour, metric, fill, label, colour in [
+        (2.5, "time", "#Ab0123", "2.5 min", "#Ab0123"), (200, "distance", "red", "200 m", routes.COLOURS[1]),
+        (7, "weight", "#ab01234", "7", routes.COLOURS[1]), ("7", "time", None, "area 2", routes.COLOURS[1]),
+    ]:
+        properties = {"contour": contour, "metric": metric, "fill": fill}
+        first, second = routes.routes_of([{"properties": properties, "geometry": shape} for shape in shapes], "r", None)
+        assert (second.label, second.colour, len(first.rings), len(second.rings)) == (label, colour, 1, 3)

@@ -8,7 +8,6 @@ import json
 import xml.etree.ElementTree as xml
 
 import osmium
-import pytest
 from draws import run_tool
 from tool_case import PYTHON, VILLAGE, ToolCase, read_rows
 
@@ -352,6 +351,10 @@ class BadInput(NetworkCase):
             with self.subTest(words):
                 self.run_tool("osm_to_gr", *words, status=2)
                 self.assertEqual(self.contents(), {})
+        self.assertEqual([longest_arc("1"), longest_arc("1000000"), share("0"), share("1")], [1, 1_000_000, 0, 1])
+        for read, texts in ((longest_arc, ("0.99", "1000000.5", "nan", "x")), (share, ("-0.01", "1.01", "nan", "x"))):
+            for text in texts:
+                self.assertRaises(argparse.ArgumentTypeError, read, text)
 
     def test_help(self):
         told = self.run_tool("osm_to_gr", "--help").stdout
@@ -359,15 +362,14 @@ class BadInput(NetworkCase):
             self.assertIn(word, told)
 
 
-def converted(folder, *ways):
+def converted(folder, *ways, profile="car"):
     """What is said of a map of ways from 1 to 2 with these tags, of which each is a primary road, and their arcs."""
     lines = ["<node id='1' lon='0' lat='0'/><node id='2' lon='0.001' lat='0'/>"]
     for number, way in enumerate(ways, 1):
         tags = "".join(f"<tag k='{key}' v='{value}'/>" for key, value in {"highway": "primary", **way}.items())
         lines.append(f"<way id='{number}'><nd ref='1'/><nd ref='2'/>{tags}</way>")
-    text = MAP.format("".join(lines))
-    (folder / "map.osm").write_text(text, encoding="utf-8")
-    said = run_tool("osm_to_gr", folder / "map.osm", folder / "map")[1].splitlines()
+    (folder / "map.osm").write_text(MAP.format("".join(lines)), encoding="utf-8")
+    said = run_tool("osm_to_gr", folder / "map.osm", folder / "map", "--profile", profile)[1].splitlines()
     return said, domethyme.Network(folder / "map").arcs_frame().drop_duplicates("osm")
 
 
@@ -384,17 +386,14 @@ def test_texts_of_roads(tmp_path):
     assert arcs["seconds"].tolist() == [5.719] * 3  # (a duration is a ferry's alone)
 
 
-@pytest.mark.parametrize("count, shown", [
-    (10, "s0 2, s1 1, s2 1, s3 1, s4 1, s5 1, s6 1, s7 1, s8 1, s9 1): 11"),
-    (11, "s0 2, s1 1, s2 1, s3 1, s4 1, s5 1, s6 1, s7 1, s8 1, s9 1, ...): 12"),
-])
-def test_values_that_are_not_understood(tmp_path, count, shown):
-    said, _ = converted(tmp_path, *({"maxspeed": f"s{number}"} for number in range(count)), {"maxspeed": "s0"})
-    assert f"osm_to_gr: maxspeeds that weren't understood ({shown}" in said
-
-
-def test_rules_that_are_not_looked_at(tmp_path):
-    """Ways are counted once, for the conditions that concern the vehicle."""
+def test_what_is_said_of_tags(tmp_path):
+    """Ten of the values that aren't understood, the most frequent first; and of rules that aren't looked at the ways, once."""
+    for count, more in ((10, ""), (11, ", ...")):
+        said, _ = converted(tmp_path, *({"maxspeed": f"s{number}"} for number in range(count)), {"maxspeed": "s0"})
+        shown = ", ".join(["s0 2", *(f"s{number} 1" for number in range(1, 10))])
+        assert said[0] == f"osm_to_gr: maxspeeds that weren't understood ({shown}{more}): {count + 1}"
+    said, _ = converted(tmp_path, {"maxheight": "tall"}, profile="lorry")
+    assert said[0] == "osm_to_gr: limits that weren't understood (tall 1): 1"
     said, _ = converted(
         tmp_path, {"access:conditional": "no @ (1-2)", "maxspeed:conditional": "5 @ wet"}, {"oneway:conditional": "yes @ (1-2)"},
         {"maxspeed:forward:conditional": "5 @ wet"}, {"bicycle:conditional": "no @ wet", "access": "agricultural; destination"},
@@ -403,13 +402,3 @@ def test_rules_that_are_not_looked_at(tmp_path):
         "osm_to_gr: ways with rules for some times or conditions, which aren't looked at: 3",
         "osm_to_gr: ways for destinations alone that are taken as open: 1",
     }
-
-
-@pytest.mark.parametrize("read, texts, wrong", [
-    (longest_arc, ("1", "1000000"), ("0.99", "1000000.5", "nan", "x")), (share, ("0", "1"), ("-0.01", "1.01", "nan", "x")),
-])
-def test_numbers_of_options(read, texts, wrong):
-    assert [read(text) for text in texts] == [float(text) for text in texts]
-    for text in wrong:
-        with pytest.raises(argparse.ArgumentTypeError, match=f"{text} isn't from {texts[0]} to {texts[1]}"):
-            read(text)

@@ -210,13 +210,6 @@ class MemberTests(ToolCase):
             at[profile] = {arc.osm for arc in read_rows(self.folder / f"{profile}.arcs.csv") if arc.end == passed}
         self.assertEqual(at, {"car": {2}, "foot": {3}, "bicycle": {2}})
 
-    def test_limits_that_are_not_understood_are_counted(self):
-        way = "<way id='1'><nd ref='1'/><nd ref='2'/><tag k='highway' v='primary'/><tag k='maxheight' v='tall'/></way>"
-        nodes = "<node id='1' lon='0' lat='0'/><node id='2' lon='0.001' lat='0'/>"
-        self.write("map.osm", f"<osm version='0.6'>{nodes}{way}</osm>")
-        said = self.run_tool("osm_to_gr", "map.osm", "map", "--profile", "lorry").stderr
-        self.assertIn("osm_to_gr: limits that weren't understood (tall 1): 1\n", said)
-
     def test_a_second_conversion_refuses_members_that_it_does_not_know(self):
         self.run_tool("osm_to_gr", VILLAGE, "v", "--profile", "lorry")
         says = "lorry.json: has members that the second conversion doesn't know: fastest, maxspeed, measures"
