@@ -144,6 +144,10 @@ class Picture(DrawCase):
                 shown = roads_in(self.picture_of(EAST, words=["--full-network"]))
                 self.assertEqual(shown, {each: 1 for each in whole if each >= width})
                 self.assertEqual([len(kind["lines"]) for kind in self.page_of(NO_WAY)[1]["roads"]], [1, 1, 0, 1, 0])
+        widths = {"motorway": "3.6", "trunk_link": "3.6", "secondary": "2.4", "tertiary_link": "1.8", "path": "1.2"}
+        for highway, width in widths.items():
+            self.write("net.arcs.csv", ARCS.replace("tertiary", "primary").replace("primary_link", highway))
+            self.assertEqual(roads_in(self.picture_of(EAST)), {"3": 1, width: 1})
         self.widen()  # (a road whose ends are far away)
         self.assertEqual(roads_in(self.picture_of(route("on", [[0.0079, 0.02], [0.0081, 0.02]]))), {"1.2": 1})
 
@@ -258,6 +262,17 @@ class Picture(DrawCase):
                 self.run_tool("draw", "net", routes, name)
                 text = (self.folder / name).read_text(encoding="utf-8")
                 self.assertEqual([text.count(word) for word in ("Firm", "Others")], [1, int(said == "© Others")])
+
+    def test_corners(self):
+        """The legend hides the fewest points of routes, and of roads where corners are alike."""
+        def line(*places):
+            return [geometry.from_mercator((x / 1000, y / 1000)) for x, y in places]
+
+        view = geometry.View(geometry.Box(0, 0, 1, 1), 1000)
+        road = roads.RoadLines(roads.ROAD_STYLES[0], None, [line((50, 30), (60, 30))])
+        for places, corner in (([(950, 30)], (0, 786, 910)), ([(950, 30), (950, 940), (50, 940)], (0, 14, 14))):
+            drawn = [routes.DrawnRoute("", "", "#0072b2", line=line(place)) for place in places]
+            self.assertEqual(picture.corner_for(200, 40, drawn, [road], view), corner)
 
     def test_what_xml_cannot_hold(self):
         picture = self.picture_of(route("a\x00b\ud800", [[0, 0], [0.002, 0]]))

@@ -3,6 +3,7 @@ import itertools
 import json
 import math
 import random
+import re
 
 import numpy as np
 import pytest
@@ -132,7 +133,7 @@ class MeridianTests(ToolCase):
         self.assertEqual(roads[0]["lines"], [[1117, 93, -1025, 0]])
 
     def test_from_answers_to_a_picture(self):
-        lines = self.run_tool("to_geojson", "net", self.write("a", "r 1 2 32024 1 1 2\n")).stdout
+        lines = self.run_tool("to_geojson", "net", self.write("a", "r 1 2 32024 1 1 2\nr 2 1 32024 1 2 1\n")).stdout
         self.assertIn(
             '"type":"MultiLineString","coordinates":[[[179.998,0.0],[180.0,0.0]],[[-180.0,0.0],[-179.998,0.0]]]', lines
         )
@@ -146,6 +147,7 @@ class MeridianTests(ToolCase):
         picture = (self.folder / "out.svg").read_text()
         # the scale's bar is of 50 or 100 metres: the picture has the road, and not the world
         self.assertRegex(picture, r">(50|100|200) m<")
+        self.assertEqual(re.search('<path stroke="#918d86" [^>]*d="([^"]*)"', picture)[1].count("M"), 2)
         self.run_tool("draw", "net", "routes", "out.html", "--full-network")
         data = (self.folder / "out.html").read_text()
         self.assertRegex(data, r'"bounds":\[\[0.0,179.998\],\[0.0,180.002\]\]')

@@ -396,9 +396,10 @@ def test_what_is_said_of_tags(tmp_path):
     assert said[0] == "osm_to_gr: limits that weren't understood (tall 1): 1"
     said, _ = converted(
         tmp_path, {"access:conditional": "no @ (1-2)", "maxspeed:conditional": "5 @ wet"}, {"oneway:conditional": "yes @ (1-2)"},
-        {"maxspeed:forward:conditional": "5 @ wet"}, {"bicycle:conditional": "no @ wet", "access": "agricultural; destination"},
+        {"bicycle:conditional": "no @ wet", "access": "agricultural; destination"}, *[{"access": "no"}] * 2,
+        *[{"maxspeed:forward:conditional": "5 @ wet"}] * 2,
     )
-    assert set(said[:2]) == {
-        "osm_to_gr: ways with rules for some times or conditions, which aren't looked at: 3",
-        "osm_to_gr: ways for destinations alone that are taken as open: 1",
+    assert set(said[:3]) == {
+        "osm_to_gr: ways with rules for some times or conditions, which aren't looked at: 4",
+        "osm_to_gr: ways for destinations alone that are taken as open: 1", "osm_to_gr: ways left out as closed to the vehicle: 2",
     }

@@ -24,7 +24,9 @@ WAYS = {
         ("highway=primary junction=circular", 70, None), ("highway=primary junction=roundabout oneway=no", 70, 70),
         ("highway=primary junction=roundabout oneway=-1", None, 70), ("highway=primary junction=yes", 70, 70),
         ("highway=primary maxspeed=80", 80, 80), ("highway=primary maxspeed=57.5", 57.5, 57.5),
-        ("highway=primary maxspeed=50~km/h", 50, 50), ("highway=primary maxspeed=45mph", 72.42048, 72.42048),
+        ("highway=primary maxspeed=50~km/h", 50, 50),
+        ("highway=primary maxspeed=50kmh", 50, 50), ("highway=primary maxspeed=50~kph", 50, 50),
+        ("highway=primary maxspeed=45mph", 72.42048, 72.42048),
         ("highway=primary maxspeed=5~mph", 8.04672, 8.04672), ("highway=primary maxspeed=10~knots", 18.52, 18.52),
         ("highway=primary maxspeed=none", 130, 130), ("highway=primary maxspeed=walk", 7, 7),
         ("highway=primary maxspeed=DE:urban", 50, 50), ("highway=primary maxspeed=RO:urban", 50, 50),
@@ -195,6 +197,8 @@ class MemberTests(ToolCase):
                 self.own(**members)
                 with self.assertRaisesRegex(MapError, re.escape(f"own.json: {says}")):
                     read_profile(str(self.folder / "own.json"))
+        self.own(turns={"left": 360_000, "right": 0}, fastest=1, speeds={"primary": 1000}, measures={"maxheight": 0})
+        self.assertEqual(read_profile(str(self.folder / "own.json")).turns, {"left": 360_000, "right": 0})
         (self.folder / "own.json").write_bytes(b'{"about": "\xe9"}')
         self.assert_refused("osm_to_gr", VILLAGE, "out", "--profile", "own.json", says="own.json: isn't UTF-8")
 

@@ -65,7 +65,7 @@ class ReachToolTests(ReachCase):
         self.assertEqual([each.find("{*}title").text for each in groups], ["2 min", "1 min"])
         for group, feature in zip(groups, features):
             path = group.find("{*}path")
-            self.assertEqual(path.get("stroke"), feature["properties"]["fill"])
+            self.assertEqual((path.get("stroke"), path.get("fill-rule")), (feature["properties"]["fill"], "evenodd"))
             geometry = shape(feature["geometry"])
             rings = sum(1 + len(part.interiors) for part in getattr(geometry, "geoms", [geometry]))
             self.assertEqual(path.get("d").count("Z"), rings)

@@ -17,6 +17,7 @@ import domethyme
 from domethyme.csv_tables import escape_formula, unescape_formula
 from domethyme.network import net_file
 from domethyme.network.columns import NO_OSM
+from domethyme.network.tables import read_attribution
 from domethyme_tools.to_network import mark
 
 NODES = "node,lon,lat\ndepot,0,0\nshop,0.001,0\nfarm,0.001,0.002\n"
@@ -65,6 +66,9 @@ class TableTests(ToolCase):
         self.assertEqual(domethyme.Network(self.folder / "net").keys().node(17), 0)
 
     def test_tables_that_it_writes(self):
+        for words, said in ((("--attribution", " a\n b"), "a b"), ((), "a b"), (("--attribution", ""), "")):
+            self.made("--tables", *words)
+            self.assertEqual(read_attribution(self.folder / "net"), said)
         self.made("--tables", "--attribution", "© Firm")
         self.assertTrue(net_file.is_current(str(self.folder / "net")))
         text = (self.folder / "net.arcs.csv").read_text()

@@ -165,11 +165,11 @@ class MapTests(ToolCase):
         return domethyme.Network(self.folder / "net").arcs_frame()
 
     def test_durations(self):
-        """Each form of 72 minutes, for both directions; and else 5 km/h."""
-        for duration in ("72", "01:12", " 1:12:00 ", "PT72M", "PT1H12M", "PT1H720S"):
+        """Each form of 72 minutes and 10 seconds, or none, for both directions; and else 5 km/h."""
+        for duration, more in (("72", 0), ("01:12", 0), (" 1:12:10 ", 10), ("PT72M", 0), ("PT1H12M10S", 10), ("PT4330S", 10)):
             arcs = self.network(duration)
             ferry = arcs[arcs["highway"] == "ferry"]
-            self.assertEqual((ferry["seconds"].tolist(), ferry["name"].tolist()), ([4320.0] * 2, ["Boat"] * 2), duration)
+            self.assertEqual((ferry["seconds"].tolist(), ferry["name"].tolist()), ([4320 + more] * 2, ["Boat"] * 2), duration)
         for duration in ("", "soon", "0", "12:99", "PT", "P1D", "-5", "1.5"):
             arcs = self.network(duration)
             ferry = arcs[arcs["highway"] == "ferry"]
