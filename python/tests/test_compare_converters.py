@@ -101,6 +101,3 @@ class CompareConverters(ToolCase):
         # the last two arcs are those of Far Road, which nothing else reaches
         self.change("gr", "a 37 38 13343\na 38 37 13343\n", "a 37 38 13343\na 1 37 13343\n")
         self.assert_refused("compare_converters", VILLAGE, "village", says="only one of the two reaches node")
-
-    def test_no_network(self):
-        self.assert_refused("compare_converters", VILLAGE, "village", says="village.gr: No such file")

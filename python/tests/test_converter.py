@@ -12,12 +12,10 @@ from unittest import mock
 import numpy as np
 from tool_case import IN_TABLES, PYTHON, SECONDS, TAKES_SIGNALS, VILLAGE, ToolCase, read_rows
 
-from domethyme.dimacs import read_graph
 from domethyme.errors import MapError
 from domethyme.maps import conversion, map_arrays, road_network
 from domethyme.maps.vehicle_profile import read_profile
 from domethyme.network import from_tables, net_file, parallel, table_files
-from domethyme.network.columns import UNITS
 
 # A compiler that writes the program to the path behind -o
 BUILT = '#!/bin/sh\necho "$@" >words\nwhile [ "$1" != -o ]; do shift; done\ncp program "$2"\nchmod +x "$2"\n'
@@ -141,20 +139,6 @@ class FileTests(ToolCase):
             paths = {"SOURCE": self.folder / place / "none", "PACKAGES": f"{self.folder}/packages/", "PACKAGED": "/bin/sh"}
             with mock.patch.multiple(map_arrays, **paths), ends:
                 self.assertEqual(map_arrays.ensure_built(None), "/bin/sh")
-
-    def test_without_tables(self):
-        """The same graph, nodes and arcs; tables of another network are removed."""
-        self.run_tool("osm_to_gr", VILLAGE, "v", "--tables")
-        self.run_tool("osm_to_gr", VILLAGE, "w")
-        self.assertEqual(len(list(self.folder.glob("w.*"))), 2)
-        graph, nodes = read_graph(self.folder / "v.gr"), read_rows(self.folder / "v.nodes.csv")
-        network = net_file.read(self.folder / "w.net")
-        places = zip((network.node_lon[:] / UNITS).tolist(), (network.node_lat[:] / UNITS).tolist())
-        self.assertEqual((read_graph(self.folder / "w.gr"), list(places)), (graph, [(node.lon, node.lat) for node in nodes]))
-        self.assertEqual(len(read_rows(self.folder / "v.arcs.csv")), len(graph.starts))
-        self.run_tool("osm_to_gr", VILLAGE, "v", "--keep-islands")
-        self.assertEqual(len(list(self.folder.glob("v.*"))), 2)
-        self.assertEqual(len(net_file.read(self.folder / "v.net").node_osm), read_graph(self.folder / "v.gr").nodes)
 
 
 class RoomTests(unittest.TestCase):

@@ -255,15 +255,6 @@ class Copier(osmium.SimpleHandler):
         self.writer.add_way(way)
 
 
-class OwnProfile(NetworkCase):
-    def test_a_profile_of_ones_own(self):
-        profile = {**CAR, "speeds": {"footway": 5}, "access": ["access", "foot"], "barriers": ["gate"]}
-        self.write("foot.json", json.dumps(profile))
-        self.convert("--profile", "foot.json", "--keep-islands")
-        # Footpath leads from 11 to 21, 2 steps
-        self.assertEqual(self.drawn(), {("Footpath", 11, 21, 160121): 1, ("Footpath", 21, 11, 160121): 1})
-
-
 # A map, or a path, with what is said of it.
 MAP = "<osm version='0.6'>{}</osm>"
 WAY = "<way id='1'><nd ref='1'/><nd ref='2'/><nd ref='3'/><tag k='highway' v='road'/></way>"

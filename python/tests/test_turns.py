@@ -1,7 +1,7 @@
-"""Tests of turn restrictions: the nodes of a crossing, relations of all kinds, and a search over turns."""
+"""Tests of turn restrictions: the nodes of a crossing, and relations of all kinds."""
 import collections
 
-from tool_case import VILLAGE, ToolCase, read_rows
+from tool_case import ToolCase, read_rows
 
 from domethyme.maps.turn_restrictions import Member, Restriction, applicable_rules, restrictions_of
 from domethyme.network.columns import ENDS
@@ -75,10 +75,3 @@ class RelationTests(ToolCase):
         self.assertEqual(applicable_rules([*others, *kept], {1: (7, 9), 2: (9, 3)}.get, report), {9: kept})
         self.assertEqual([*report.values()], [2, 2])
         self.assertIn("turn restrictions without effect, of ways that are left out", report)
-
-
-class ComparisonTests(ToolCase):
-    def test_the_village_with_many_restrictions(self):
-        for seed in (1, 2):
-            told = self.run_tool("compare_turns", VILLAGE, "--draw", "30", "--seed", seed).stdout
-            self.assertRegex(told, "^restrictions: 31; pairs: 1156, all equal; [1-9][0-9]* longer than with free turns")
