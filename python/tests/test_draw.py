@@ -11,9 +11,10 @@ from unittest import mock
 
 import pytest
 from draws import run_tool
-from tool_case import ToolCase, contrast
+from tool_case import VILLAGE, ToolCase, contrast
 
 from domethyme.drawing import geometry, picture, roads, routes
+from domethyme.network import net_file
 from domethyme_tools.cli import ToolError
 from domethyme_tools.draw import page
 
@@ -134,6 +135,7 @@ class Picture(DrawCase):
         picture = self.picture_of(EAST, words=["--width", "500"])
         self.assertEqual((picture.get("width"), picture.get("height")), ("500", "332"))
         self.assertAlmostEqual(float(picture.find("./g[@clip-path]/circle").get("cx")), 130.9, delta=0.1)
+        self.assertEqual(roads_in(picture), {"1.5": 1, "2.5": 1})  # (roads are narrower by a sixth)
 
     def test_roads(self):
         self.assertEqual(roads_in(self.picture_of(EAST)), {"1.8": 1, "3": 1})
@@ -148,8 +150,6 @@ class Picture(DrawCase):
         for highway, width in widths.items():
             self.write("net.arcs.csv", ARCS.replace("tertiary", "primary").replace("primary_link", highway))
             self.assertEqual(roads_in(self.picture_of(EAST)), {"3": 1, width: 1})
-        self.widen()  # (a road whose ends are far away)
-        self.assertEqual(roads_in(self.picture_of(route("on", [[0.0079, 0.02], [0.0081, 0.02]]))), {"1.2": 1})
 
     def test_legend_and_titles(self):
         picture = self.picture_of(EAST, WEST, NO_WAY)
@@ -240,6 +240,8 @@ class Picture(DrawCase):
         self.assertEqual([path.get("stroke-width") for path in first.findall("path")], ["8.5", "4.5"])
         self.assertEqual([path.get("stroke-width") for path in second.findall("path")], ["4.5"])
         self.assertNotEqual(first.find("path").get("stroke"), second.find("path").get("stroke"))
+        widths = [group.find("path").get("stroke-width") for group in self.picture_of(*[EAST] * 5).findall("./g/g")]
+        self.assertEqual(widths, ["16.5", "16.5", "12.5", "8.5", "4.5"])
 
     def test_route_of_no_arc(self):
         picture = self.picture_of(route("stay", [[0, 0], [0, 0]], 0, 0))
@@ -359,13 +361,9 @@ class Page(DrawCase):
         for part in ["Vladimir Agafonkin", "Redistributions in binary form", "EVEN IF ADVISED OF THE POSSIBILITY"]:
             self.assertEqual(text.count(part), 1, part)
 
-    def test_other_files_of_leaflet(self):
-        for name, path, says in (
-            ("LEAFLET", self.folder, "leaflet.css: isn't there: pages need Debian's package libjs-leaflet"),
-            ("LEAFLET_COPYRIGHT", self.folder / "net.nodes.csv", "net.nodes.csv: has Leaflet's licence in another form"),
-        ):
-            with mock.patch.object(page, name, path), self.assertRaisesRegex(ToolError, says):
-                self.page_of(EAST)
+    def test_no_leaflet(self):
+        with mock.patch.object(page, "LEAFLET", self.folder), self.assertRaisesRegex(ToolError, "leaflet.css: isn't there: pages need"):
+            self.page_of(EAST)
 
     def test_tiles_by_address(self):
         text, data = self.page_of(EAST, words=["--tiles", "https://tiles.example/{z}/{x}/{y}.png"])
@@ -549,3 +547,21 @@ def test_areas():
         properties = {"contour": contour, "metric": metric, "fill": fill}
         first, second = routes.routes_of([{"properties": properties, "geometry": shape} for shape in shapes], "r", None)
         assert (second.label, second.colour, len(first.rings), len(second.rings)) == (label, colour, 1, 3)
+    view = geometry.View(geometry.Box(0, 0, 1, 1), 100)
+    assert "<title>&lt;b&gt;</title>" in picture.draw_area(first._replace(label="<b>"), view)
+
+
+def test_roads_in_boxes(tmp_path, monkeypatch):
+    """Those whose boxes meet it, wherever their points are, of the same styles as in all the network."""
+    monkeypatch.setattr(roads, "PART", 3)
+    run_tool("osm_to_gr", VILLAGE, tmp_path / "v", "--keep-islands")
+    arrays = net_file.read(str(tmp_path / "v.net"))
+    whole = roads.read_roads(arrays, None)
+    for west, south, width in ((12, -1, 2), (1, 1, 58), (-61, -3, 10), (199, -351, 402), (-100, -100, 400)):
+        west, south, east, north = (each / 1e4 for each in (west, south, west + width, south + width))
+        found = roads.read_roads(arrays, geometry.box_of(geometry.to_mercator([(west, south), (east, north)])))
+        for some, every in zip(found, whole, strict=True):
+            lines = [(line, *map(min, zip(*line)), *map(max, zip(*line))) for line in every.lines]
+            near = [each[0] for each in lines if each[1] <= east and each[2] <= north and each[3] >= west and each[4] >= south]
+            assert sorted(some.lines) == sorted(near)
+    assert sum(len(each.lines) for each in found) == sum(len(each.lines) for each in whole) > 30

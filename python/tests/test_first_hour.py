@@ -68,7 +68,8 @@ def test_what_notebooks_and_others_know(village):
     places = [(float(hierarchy.network.lon[node]), float(hierarchy.network.lat[node])) for node in (0, 5)]
     directions, tour = hierarchy.directions(places), hierarchy.tour(places)
     for shown, what in ((route, "stroke"), (routes, "and 10 more"), (contours, "fill-rule"), (directions, "stroke"), (tour, "stroke")):
-        assert shown._repr_html_().startswith("<svg") and what in shown._repr_html_()
+        picture = shown._repr_html_()
+        assert picture.startswith("<svg") and what in picture and "© OpenStreetMap contributors" in picture
     for said in (repr(directions), repr(directions.legs)):
         assert f"weight {directions.weight}" in said and len(said) < 120
     with domethyme.Hierarchy(hierarchy.path) as bare:

@@ -131,6 +131,7 @@ mkdir -p a/b/{name} c/b\necho whole >c/b/{name}\necho no >c/b/no-{name}\ntar -cf
         self.assertEqual([text.split(name)[1] for text in said], [": 6 bytes\n", " is there already\n"])
         calls = (self.folder / "calls").read_text().splitlines()
         self.assertEqual([line.split()[-1] for line in calls], ["update", "main", "osm2pgsql=1.8.0+ds-1", "main"])
+        self.assertIn(" [signed-by=/usr/share/keyrings/debian-archive-keyring.gpg] ", calls[1])
         own = f"{self.folder}/fetch-extract-"
         for setting in ("Dir::Etc::SourceList=", "Dir::State=", "Dir::Cache="):
             self.assertEqual([setting + own in line for line in calls], [True, False] * 2)
