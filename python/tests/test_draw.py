@@ -362,7 +362,8 @@ class Page(DrawCase):
             self.assertEqual(text.count(part), 1, part)
 
     def test_no_leaflet(self):
-        with mock.patch.object(page, "LEAFLET", self.folder), self.assertRaisesRegex(ToolError, "leaflet.css: isn't there: pages need"):
+        says = "leaflet.css: isn't there: pages need Debian's package libjs-leaflet"
+        with mock.patch.object(page, "LEAFLET", self.folder), self.assertRaisesRegex(ToolError, says):
             self.page_of(EAST)
 
     def test_tiles_by_address(self):
@@ -494,6 +495,11 @@ class Geometry(ToolCase):
 
     def test_joined(self):
         self.assertEqual(geometry.join_lines([["a", "b"], ["b", "b", "c"], ["c", "a"]]), ["a", "b", "c", "a"])
+
+    def test_steps(self):
+        """They are between places that are rounded, so what is left out of one is in a later one."""
+        self.assertEqual(geometry.path_of([(0, 0), (0.04, 0), (0.08, 0), (0.12, -0.04)]), "M0 0l0.1 0")
+        self.assertEqual(geometry.delta_encode([(0, 1), (4e-7, 1), (8e-7, 1 + 4e-7)]), [0, 1_000_000, 0, 0, 1, 0])
 
     def test_nested(self):
         a, b, c, d = (0, 0), (1, 0), (2, 0), (3, 0)

@@ -398,7 +398,7 @@ class TestTheCommand:
         """A network of two nodes, its hierarchy, and a folder that stands for the library."""
         (tmp_path / "t.nodes.csv").write_text("node,lon,lat\n1,0,0\n2,0.001,0\n")
         (tmp_path / "t.arcs.csv").write_text("from,to,oneway,weight\n1,2,0,5\n")
-        run(TOOLS / "to_network", tmp_path / "t.nodes.csv", tmp_path / "t.arcs.csv", tmp_path / "n")
+        run(TOOLS / "to_network", tmp_path / "t.nodes.csv", tmp_path / "t.arcs.csv", tmp_path / "n", "--attribution", "Firm")
         (tmp_path / "t.arcs.csv").write_text("from,to,oneway,weight\n1,2,0,6\n")
         run(TOOLS / "to_network", tmp_path / "t.nodes.csv", tmp_path / "t.arcs.csv", tmp_path / "other")
         domethyme.prepare(tmp_path / "n.gr", tmp_path / "n.rch", workers=1).close()
@@ -413,7 +413,8 @@ class TestTheCommand:
         page = (folder / "a.html").read_text(encoding="utf-8")
         assert unpacked(page, "module") == b"module"
         assert unpacked(page, "hierarchy") == columns_of_hierarchy((folder / "n.rch").read_bytes(), "n.rch")
-        assert columns_of(unpacked(page, "network"))[0]["attribution"].endswith("© Us")
+        about = columns_of(unpacked(page, "network"))[0]
+        assert [about[name] for name in ("attribution", "box", "nodes", "hasSeconds")] == ["Firm, © Us", [0, 0, 0.001, 0], 2, False]
         policy = re.search(r'Content-Security-Policy" content="([^"]*)"', page)[1]
         for kind in ("script", "style"):
             text = re.findall(rf"<{kind}>(.*?)</{kind}>", page, re.S)

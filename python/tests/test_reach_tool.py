@@ -63,17 +63,18 @@ class ReachToolTests(ReachCase):
         features = json.loads((self.folder / "out").read_text())["features"]
         groups = [each for each in xml.parse(self.folder / "out.svg").iter(f"{SVG}g") if each.find("{*}title") is not None]
         self.assertEqual([each.find("{*}title").text for each in groups], ["2 min", "1 min"])
+        rings = []
         for group, feature in zip(groups, features):
             path = group.find("{*}path")
             self.assertEqual((path.get("stroke"), path.get("fill-rule")), (feature["properties"]["fill"], "evenodd"))
             geometry = shape(feature["geometry"])
-            rings = sum(1 + len(part.interiors) for part in getattr(geometry, "geoms", [geometry]))
-            self.assertEqual(path.get("d").count("Z"), rings)
+            rings.append(sum(1 + len(part.interiors) for part in getattr(geometry, "geoms", [geometry])))
+            self.assertEqual(path.get("d").count("Z"), rings[-1])
         svg, page = ((self.folder / name).read_text() for name in ("out.svg", "out.html"))
         self.assertLess(svg.index("<title>1 min"), svg.index('stroke="#918d86"'))
         self.assertEqual(re.findall(r'font-weight="bold">([^<]*)<', svg), ["2 min", "1 min"])
         areas = [route["area"] for route in json.loads(re.search(r'id="data">\n(.*)', page)[1])["routes"]]
-        self.assertEqual([area["colour"] for area in areas], ["#E69F00", "#0072B2"])
+        self.assertEqual([(area["colour"], len(area["rings"])) for area in areas], [*zip(("#E69F00", "#0072B2"), rings)])
 
     def test_areas_of_another_network(self):
         text = json.dumps({"type": "Feature", "properties": {}, "geometry": {"type": "Polygon", "coordinates": [[[0, 0]]]}})
