@@ -33,6 +33,7 @@ def test_a_map_in_one_call(village):
         assert again.route(0, 5).nodes == third.route(0, 5).nodes == hierarchy.route(0, 5).nodes
     for words, says in [({"profile": "tank"}, "no profile tank"), ({"speed": 3}, "no option speed"), ({"at_least": 1.0}, "35 of 38 nodes reach"),
                         ({"at_least": 0.93}, "35 of 38 nodes reach one another, less than 93%"), ({"at_least": -0.1}, "isn't from 0 to 1"),
+                        ({"at_least": 1.1}, "isn't from 0 to 1"), ({"longest_arc": 1_000_001}, "isn't from 1 to 1000000"),
                         ({"longest_arc": "250"}, "longest_arc '250' is no number"), ({"longest_arc": 0.5}, "isn't from 1 to 1000000"),
                         ({"weight": "days"}, "'days' is none of length, time"), ({"weight": ["time"]}, r"weight \['time'\] is no text"),
                         ({"attribution": None}, "attribution None is no text")]:

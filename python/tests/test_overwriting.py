@@ -115,6 +115,7 @@ class OverwritingTests(ToolCase):
 
     def test_tables_that_a_tool_has_written(self):
         self.run_tool("osm_to_gr", VILLAGE, "v", "--tables")
+        self.assert_kept("osm_to_gr", self.write("bare.osm", "<osm version='0.6'/>"), "v", status=1, says="has no road")
         said = self.run_tool("osm_to_gr", VILLAGE, "v").stderr
         self.assertIn("osm_to_gr: removed v.nodes.csv, v.arcs.csv, v.nodes.csvt, v.nodes.prj, v.arcs.csvt, v.arcs.prj, which were of", said)
         self.assertEqual(sorted(path.suffix for path in self.folder.glob("v.*")), [".gr", ".net"])

@@ -33,9 +33,11 @@ class CrossingTests(ToolCase):
     def test_no_turn(self):
         """A crossing where who comes from the west, or from the east too, may not turn north: what is said, and its nodes."""
         for starts in ((2, 4), (2,)):
-            self.write("map.osm", crossing(*((start, 3, {"restriction": "no_left_turn"}) for start in starts)))
+            turns = [(start, 3, {"restriction": "no_left_turn"}) for start in starts]
+            self.write("map.osm", crossing(*turns, *[(3, 2, {"restriction": "stop"})] * 2))
             said = self.run_tool("osm_to_gr", "map.osm", "map", "--tables").stderr
             self.assertIn("osm_to_gr: junctions split by turn restrictions: 1\n", said)
+            self.assertIn("osm_to_gr: turn restrictions not looked at: of another kind: 2\n", said)
             # 4 arcs to the crossing lead to 2 nodes each; 4 lead on from where routes begin, and 3 for who may not turn
             self.assertIn("osm_to_gr: map: 7 nodes, 15 arcs, 0.4 km of road\n", said)
         self.assertEqual(sorted(node.ends for node in read_rows(self.folder / "map.nodes.csv")), ["", "", "", "", "from", "no", "to"])
