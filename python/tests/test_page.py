@@ -439,14 +439,6 @@ class TestTheCommand:
         ended = run(TOOLS / "page", *given, status=status)
         assert says in ended.stderr and not (folder / "a.html").exists()
 
-    @pytest.mark.parametrize("change, says", [
-        (lambda data: b"RCH1" + data[4:], "is no whole hierarchy file of version 2"), (lambda data: data[:-1], "is no whole hierarchy file"),
-        (lambda data: data + b"\0", "is no whole hierarchy file"),
-    ])
-    def test_hierarchies_that_are_refused(self, folder, change, says):
-        with pytest.raises(HierarchyError, match=says):
-            columns_of_hierarchy(change((folder / "n.rch").read_bytes()), "n.rch")
-
     @pytest.mark.parametrize("links, says", [
         ([FIRST, (0, 2, 12, 2, 1), SECOND], None), ([(0, 1, (1 << 32) - 1, 1, NO_MIDDLE)], None),
         *((links, "aren't well made") for links in (
@@ -462,6 +454,9 @@ class TestTheCommand:
         data = head + b"".join(struct.pack(">IIQII", *link) for link in links)
         with pytest.raises(HierarchyError, match=says) if says else contextlib.nullcontext():
             columns_of_hierarchy(data, "n.rch")
+        for other in (b"RCH1" + data[4:], data[:-1], data + b"\0"):
+            with pytest.raises(HierarchyError, match="is no whole hierarchy file of version 2"):
+                columns_of_hierarchy(other, "n.rch")
 
     def test_a_network_that_is_too_large(self, folder, monkeypatch, capsys):
         from domethyme_tools import page
