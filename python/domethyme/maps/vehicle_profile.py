@@ -169,7 +169,8 @@ def judge(tags: Tags, profile: Profile) -> Judgement:
     found = {direction: speed_of(tags, direction, profile) for direction in directions(tags, profile)}
     forward, backward = (found[direction][0] if direction in found else None for direction in DIRECTIONS)
     is_known = all(known for _, known in found.values())
-    speeds = set() if is_known else {tags[key] for key in speed_keys(profile) if key in tags}
+    texts = set() if is_known else {tags[key] for key in speed_keys(profile) if key in tags}
+    speeds = {text for text in texts if maxspeed_of(text, profile) is None}
     limits = {tags[key] for key in profile.measures if key in tags and limit_of(key, tags[key]) is None}
     unknown = (" and ".join(sorted(values)) or None for values in (speeds, limits))
     return Judgement(None, forward, backward, *unknown)
