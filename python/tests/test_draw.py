@@ -240,8 +240,10 @@ class Picture(DrawCase):
         self.assertEqual([path.get("stroke-width") for path in first.findall("path")], ["8.5", "4.5"])
         self.assertEqual([path.get("stroke-width") for path in second.findall("path")], ["4.5"])
         self.assertNotEqual(first.find("path").get("stroke"), second.find("path").get("stroke"))
-        widths = [group.find("path").get("stroke-width") for group in self.picture_of(*[EAST] * 5).findall("./g/g")]
-        self.assertEqual(widths, ["16.5", "16.5", "12.5", "8.5", "4.5"])
+        picture = self.picture_of(*[EAST] * 5)
+        white = [path for path in picture.findall("./g[@clip-path]/path") if path.get("stroke") == "#fff" and not path.get("fill")]
+        for paths, widths in ((picture.findall("./g/g/path"), (16.5, 16.5, 12.5, 8.5, 4.5)), (white, (19, 19, 15, 11, 7))):
+            self.assertEqual([float(path.get("stroke-width")) for path in paths], [*widths])
 
     def test_route_of_no_arc(self):
         picture = self.picture_of(route("stay", [[0, 0], [0, 0]], 0, 0))
