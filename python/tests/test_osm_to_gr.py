@@ -383,7 +383,8 @@ def test_what_is_said_of_tags(tmp_path):
         said, _ = converted(tmp_path, *({"maxspeed": f"s{number}"} for number in range(count)), {"maxspeed": "s0"})
         shown = ", ".join(["s0 2", *(f"s{number} 1" for number in range(1, 10))])
         assert said[0] == f"osm_to_gr: maxspeeds that weren't understood ({shown}{more}): {count + 1}"
-    said, _ = converted(tmp_path, {"maxspeed:forward": "b", "maxspeed:backward": "a"}, {"maxspeed": "sign", "maxspeed:forward": "9"})
+    ways = {"maxspeed:forward": "b", "maxspeed:backward": "a"}, {"maxspeed": "sign", "maxspeed:forward": "9"}
+    said, _ = converted(tmp_path, *ways)
     assert said[0] == "osm_to_gr: maxspeeds that weren't understood (a and b 1, sign 1): 2"
     said, _ = converted(tmp_path, {"maxheight": "tall"}, profile="lorry")
     assert said[0] == "osm_to_gr: limits that weren't understood (tall 1): 1"
