@@ -1,4 +1,4 @@
-"""Conversions of drawn maps and of the village are those of compare_converters, the second conversion, which sees what is changed; and with turn
+"""Conversions of drawn maps are those of compare_converters, the second conversion, which sees what is changed; and with turn
 restrictions those of compare_turns, a search over turns."""
 import contextlib
 import pathlib
@@ -82,14 +82,6 @@ class CompareConverters(ToolCase):
         text = path.read_text(encoding="utf-8")
         self.assertIn(old, text)
         path.write_text(text.replace(old, new, 1), encoding="utf-8")
-
-    def test_the_village(self):
-        for weight in ("time", "length"):
-            with self.subTest(weight):
-                self.convert("--keep-islands", "--weight", weight)
-                told = self.run_tool("compare_converters", VILLAGE, "village", "--weight", weight).stdout
-                # 38 nodes, without 3 points of our own and the 4 ends at the bollard and the private gate
-                self.assertIn(f"pairs: {31 * 31}, reached by both or by neither; ", told)
 
     def test_a_weight_that_is_wrong(self):
         self.convert()

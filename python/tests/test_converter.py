@@ -1,5 +1,4 @@
 """Tests of the program by which osm_to_gr reads maps: how it is built, interrupted and fails; and of what comes of it."""
-import contextlib
 import os
 import random
 import shutil
@@ -130,15 +129,6 @@ class FailureTests(ProgramCase):
             with self.assertRaises(ProcessLookupError):
                 os.kill(program, 0)
             (self.folder / "pid").unlink()
-
-
-class FileTests(ToolCase):
-    def test_debians_package(self):
-        """It has the program, which a source elsewhere doesn't take."""
-        for place, ends in (("packages", contextlib.nullcontext()), ("other", self.assertRaises(FileNotFoundError))):
-            paths = {"SOURCE": self.folder / place / "none", "PACKAGES": f"{self.folder}/packages/", "PACKAGED": "/bin/sh"}
-            with mock.patch.multiple(map_arrays, **paths), ends:
-                self.assertEqual(map_arrays.ensure_built(None), "/bin/sh")
 
 
 class RoomTests(unittest.TestCase):

@@ -139,12 +139,6 @@ class Village(NetworkCase):
         both = {f"LINESTRING ({', '.join(line[::step])})" for line in (first, second) for step in (1, -1)}
         self.assertEqual({arc.wkt for arc in rows if arc.name == "The Ring"}, both)
 
-    def test_longer_arcs(self):
-        self.convert("--longest-arc", "600")
-        drawn = self.drawn()
-        self.assertEqual(drawn["Long Road", 1, 13, 20015], 1)
-        self.assertEqual(drawn["The Ring", 13, RING_CUT, 13343], 2)
-
     def test_shorter_arcs(self):
         self.convert("--longest-arc", "100", "--weight", "length")
         drawn = self.drawn()
@@ -346,11 +340,6 @@ class BadInput(NetworkCase):
         for read, texts in ((longest_arc, ("0.99", "1000000.5", "nan", "x")), (share, ("-0.01", "1.01", "nan", "x"))):
             for text in texts:
                 self.assertRaises(argparse.ArgumentTypeError, read, text)
-
-    def test_help(self):
-        told = self.run_tool("osm_to_gr", "--help").stdout
-        for word in ("MAP", "OUT", "--profile", "--weight", "--longest-arc", "--keep-islands", "turn restrictions"):
-            self.assertIn(word, told)
 
 
 def converted(folder, *ways, profile="car"):
