@@ -378,7 +378,8 @@ def test_what_is_said_of_tags(tmp_path):
     said, _ = converted(tmp_path, {"maxheight": "tall"}, profile="lorry")
     assert said[0] == "osm_to_gr: limits that weren't understood (tall 1): 1"
     said, _ = converted(
-        tmp_path, {"access:conditional": "no @ (1-2)", "maxspeed:conditional": "5 @ wet"}, {"oneway:conditional": "yes @ (1-2)"},
+        tmp_path, {"access:conditional": "no @ (1-2)", "maxspeed:conditional": "5 @ wet"},
+        {"oneway:conditional": "yes @ (1-2)", "access": "destination", "motor_vehicle": "yes"},
         {"bicycle:conditional": "no @ wet", "access": "agricultural; destination"}, *[{"access": "no"}] * 2,
         *[{"maxspeed:forward:conditional": "5 @ wet"}] * 2,
     )

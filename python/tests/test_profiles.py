@@ -269,7 +269,8 @@ class PenaltyTests(ToolCase):
         tags = "<tag k='highway' v='residential'/><tag k='oneway' v='yes'/>"
         ways = "".join(f"<way id='{node}'><nd ref='{node}'/><nd ref='{node + 1}'/>{tags}</way>" for node in (1, 2, 3))
         self.write("map.osm", f"<osm version='0.6'>{nodes}{ways}</osm>")
-        self.run_tool("osm_to_gr", "map.osm", "map", "--tables", "--keep-islands", "--profile", "turns.json")
+        self.write("right.json", (self.folder / "turns.json").read_text().replace('"left": 500, ', "").replace(', "back": 2000', ""))
+        self.run_tool("osm_to_gr", "map.osm", "map", "--tables", "--keep-islands", "--profile", "right.json")
         plain = 111195.08 * 3600 / 30 / 1000
         rows = [line.split(",") for line in (self.folder / "map.arcs.csv").read_text().splitlines()[1:]]
         found = {(row[5], round((int(row[2]) - plain) / 1000)) for row in rows}
