@@ -1,4 +1,5 @@
 """What requests cost, by counts; who gets slots, and what a worker does with requests that wait, by a clock of the test's own."""
+import collections
 import contextlib
 import functools
 import itertools
@@ -40,12 +41,12 @@ DRAW = random.Random(1)
 FAR = [f"{DRAW.uniform(8.36, 9.64):.3f},{DRAW.uniform(46.55, 47.45):.3f}" for _ in range(1000)]
 
 
-def cost(service, count, query, places=FAR):
+def cost(service, count, query, places=FAR, size=BIG):
     """The cost of a request by the first of these places on that map, in units."""
     path = f"/{service}/v1/car/{';'.join(places[:count])}"
     endpoint = endpoints.find_endpoint(path)
     request = parse_request(endpoint, path, dict(word.split("=") for word in query.split("&") if word), 1000.0)
-    return endpoint.formula(expected(BIG, request.places, request.values, "duration"))
+    return endpoint.formula(expected(size, request.places, request.values, "duration"))
 
 
 ALL = "steps=true&annotations=true&overview=full"
@@ -57,12 +58,65 @@ TWICE = "sources=" + "0;" * 99 + "0&destinations=" + "1;" * 99 + "1"
     # (as a polyline these are of 570 bytes: how long a path is decides nothing)
     ("route", 60, ALL, SHORT, MOST), ("route", 500, ALL, MOST, math.inf),
     ("table", 110, "bearings=" + "45,0;" * 109 + "45,0", SHORT, MOST), ("table", 2, f"annotations=distance&{TWICE}", 0, SHORT),
+    ("table", 2, f"sources={'0;' * 999}0&destinations={'1;' * 999}1", SHORT, MOST),
     ("table", 100, "annotations=distance", 0, SHORT), ("table", 500, "annotations=distance", SHORT, MOST), ("table", 25, "", 0, SHORT), ("table", 1000, "", SHORT, MOST),
     ("isochrone", 1, "contours_minutes=5", SHORT, MOST), ("isochrone", 1, "contours_minutes=600", SHORT, MOST),
     ("nearest", 1, "number=100", 0, SHORT), ("match", 20, "", 0, MOST), ("match", 500, ALL, MOST, math.inf),
 ], ids=itertools.count())
 def test_costs_on_a_map_of_half_a_million_nodes(service, count, query, low, high):
     assert low < cost(service, count, query) <= high
+
+
+PAGE = (ROOT / "docs/SERVICE.md").read_text()
+# Texts of parameters that change what a request costs; of those that have a value for each place, for the first two.
+LINES = {"steps": ["true"], "overview": ["full", "false"], "annotations": ["true", "nodes,speed"]}
+CHANGING = {
+    "route": {**LINES, "alternatives": ["true", "2", "9"], "continue_straight": ["true"], "bearings": ["45,0;"]},
+    "nearest": {"number": ["7"]}, "trip": {**LINES, "bearings": ["45,0;0,9"]}, "match": {**LINES, "radiuses": ["0.5;", "15;20"]},
+    "table": {"annotations": ["distance", "weight,distance"], "sources": ["0", "1;0;0"], "destinations": ["1;1", "0;1"]},
+    "isochrone": {"contours_minutes": ["1", "0.5,2,30,600"], "bearings": ["45,0"]},
+}
+
+
+def cost_by_the_page(size, service, places, query):
+    """The same by the tables of docs/SERVICE.md."""
+    count, known = len(places), collections.defaultdict(str, query)
+    points = [(float(lon) % 360, float(lat)) for lon, lat in (each.split(",") for each in places)]
+    ways = [math.dist(*ends) for ends in itertools.pairwise(points)]
+    if service == "trip":  # (as two places of a square are on average)
+        ways = [0.37 * math.dist(*([side(each) for each in zip(*points)] for side in (min, max)))] * count
+    nodes = 2 * math.sqrt(size.nodes) * sum(min(1, way / size.degrees) for way in ways)
+    names = {"true": 6, "": 0}.get(known["annotations"], known["annotations"].count(",") + 1)
+    each_point = 1 + names + (known["steps"] == "true") + (known["overview"] != "false")
+    times = 4 if known["continue_straight"] == "true" else 1
+    sides = [known[name].split(";") if known[name] else range(count) for name in ("sources", "destinations")]
+    rows, columns = (len({*side}) for side in sides)
+    others = min({"true": 1, "": 0, "9": 3}.get(known["alternatives"], 2), size.alternatives) if count == 2 else 0
+    sums = 4 * rows * columns * ("distance" in known["annotations"])
+    if service == "match":
+        sums = sum(16 * min(float(each or 5), 16) ** 2 for each in (known["radiuses"] or ";" * (count - 1)).split(";"))
+    radiuses = [float(each) * 130 / 60 / 111.195 / size.degrees for each in known["contours_minutes"].split(",") if each]
+    numbers = {
+        "P": count, "B": sum(map(bool, known["bearings"].split(";"))), "K": int(known["number"] or 1), "N": size.nodes,
+        "G": times * len(ways), "W": times * nodes, "V": nodes * size.points * each_point, "A": others, "U": min(1, others),
+        "M": 2 * rows, "L": min(size.links, 20 * math.sqrt(size.nodes) * columns), "Z": len(sides[0]) * len(sides[1]), "S": sums,
+        "C": len(radiuses), "R": sum(min(150_000, size.nodes * min(1, 2 * math.pi * each**2)) for each in radiuses)
+    }
+    text = re.search(rf"(?m)^\|`/{service}`\|`(.*)`\|$", PAGE)[1]
+    return eval(re.sub(r"(?<=[\w)]) (?=[\w(])", "*", text.replace(",", "")), numbers)
+
+
+@pytest.mark.parametrize("service", CHANGING)
+def test_costs_are_those_of_the_page(service):
+    """With each of these parameters, and without; between places near and far away, of a small map and a large one."""
+    lists = [FAR[:1]] if service in ("nearest", "isochrone") else [FAR[:2], ["179.9,-5", "-179.9,-5"], FAR[:5]]
+    for size, places in itertools.product((BIG, Size(3000, 9000, 3.0, 0.5, 3)), lists):
+        for texts in itertools.product(*(["", *some] for some in CHANGING[service].values())):
+            query = {name: text for name, text in zip(CHANGING[service], texts) if text}
+            for name in {"bearings", "radiuses"} & query.keys():
+                query[name] += ";" * (len(places) - 1 - query[name].count(";"))
+            found = cost(service, len(places), "&".join("=".join(each) for each in query.items()), places, size)
+            assert found == pytest.approx(cost_by_the_page(size, service, places, query), rel=1e-3), (size, places, query)
 
 
 @pytest.mark.parametrize("minutes", [0.5, 2, 5, 30])
@@ -120,7 +174,18 @@ def test_a_meter_ends_what_costs_too_much():
     assert max(later - now for now, later in itertools.pairwise(ticks)) < 50_000
     with pytest.raises(RequestError, match="would cost"):
         meter.begin(MOST + 1, True)
+    with pytest.raises(NeedsSlot):
+        meter.begin(100 * MOST, False, True)
     meter.begin(100 * MOST, True, True)
+    for _ in range(2):  # (what is at a limit isn't above it, and each block of an answer has all of it)
+        ticks.clear()
+        meter.spend(Work.CELL, MOST)
+        meter.next_block()
+        assert len(ticks) == 1
+    meter.begin(MOST, True)
+    meter.begin(SHORT, False)
+    meter.spend(Work.CELL, SHORT)
+    assert meter.counts == {Work.CELL: SHORT}
 
 
 def test_slots_are_shared_fairly():
