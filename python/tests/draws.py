@@ -139,6 +139,13 @@ def split(roads: Network) -> Network:
     return Network([*before, *more], [roads.arcs[row]._replace(start=one, end=other) for row, one, other in rows], is_left=roads.is_left)
 
 
+def one_road(*line: Point) -> Drawn:
+    """A network of one road, in both directions, of these points."""
+    arcs = [Arc(start, 1 - start, 8006, 8.006, round(along(line)[-1], 2), line[:: 1 - 2 * start]) for start in (0, 1)]
+    net = Network([Node(*line[0]), Node(*line[-1])], arcs)
+    return Drawn(net, net, False)
+
+
 # Files
 
 

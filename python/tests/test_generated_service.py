@@ -12,14 +12,14 @@ from typing import Any
 from unittest import mock
 
 from draws import (
-    HIGHWAYS, KNOWN, LIMITS, ORIGINS, WORDS, WRONG, Drawn, directions, drawn, networks, places, texts_of, write_network
+    HIGHWAYS, KNOWN, LIMITS, ORIGINS, WORDS, WRONG, Drawn, directions, drawn, networks, one_road, places, texts_of, write_network
 )
 from hypothesis import assume, given
 from hypothesis import strategies as st
 from model import answers, matching
 from model.answers import Refused
 from comparing import decoded, difference
-from model.network import Ambiguous, Arc, Network, Node
+from model.network import Ambiguous
 from model.request import Request
 from model.steps import modifier_of
 
@@ -152,9 +152,7 @@ def test_isochrones_beside_a_pole(data: Any) -> None:
 
 def test_each_text_of_a_parameter(tmp_path: pathlib.Path) -> None:
     """Each valid text is answered, and each other one gets its code; also beside a word for another place, and for too many places."""
-    line = ((0.0, 0.0), (0.001, 0.0))
-    net = Network([Node(*point) for point in line], [Arc(0, 1, 8006, 8.006, 111.2, line), Arc(1, 0, 8006, 8.006, 111.2, line[::-1])])
-    service = serve(Drawn(net, net, False), tmp_path)
+    service = serve(one_road((0.0, 0.0), (0.001, 0.0)), tmp_path)
     rows = [(what, name, *row) for what, texts in KNOWN.items() for name, codes in texts.items() for row in rows_of(codes)]
     rows += [("table", "sources", *row) for row in rows_of(KNOWN["table"]["destinations"])]
     rows += [("isochrone", "contours_minutes", text, "InvalidValue") for text in (*LIMITS, *WRONG)]

@@ -3,18 +3,22 @@ none may leak memory. Invalid texts of parameters are in draws.py."""
 import contextlib
 import itertools
 import json
+import pathlib
 import random
 import socket
 import string
 from collections.abc import Callable, Iterator
 from typing import NamedTuple
+from unittest import mock
 
+import pytest
+from draws import one_road, write_network
 from gunicorn.config import Config
 from gunicorn.http import RequestParser
 from gunicorn.http.errors import ParseException
 from gunicorn.http.wsgi import create
 from service_case import Answer, ServiceCase, read_answer
-from tool_case import SECONDS
+from tool_case import PYTHON, SECONDS
 
 from domethyme_service.access import AccessPolicy
 from domethyme_service.dataset import DatasetPaths, open_dataset
@@ -333,6 +337,45 @@ def test_a_short_body_is_waited_for() -> None:
         assert states == [HeadState.PARTIAL] * 3 + [HeadState.WHOLE]
     for length, more in ((SHORT_BODY + 1, b""), (5, b"Expect: 100-continue\r\n")):
         assert classify_head(b"POST / HTTP/1.1\r\n%bContent-Length: %d\r\n\r\n" % (more, length)) is HeadState.WHOLE
+
+
+def test_requests_at_the_limits_and_fields_of_answers(tmp_path: pathlib.Path) -> None:
+    """What is just allowed is answered, and one byte or one option more isn't. HEAD has the fields of GET."""
+    write_network(one_road((0.0, 0.0), (0.003, 0.0), (0.003, 0.004)), tmp_path / "v", "--attribution", "© the town")
+    case = InProcess(tmp_path)
+
+    def get(target: str, fields: str = "Host: x\r\n", method: str = "GET", version: str = "1.1") -> Answer:
+        return case.answer(f"{method} {target} HTTP/{version}\r\n{fields}\r\n".encode())
+
+    host, fill = "Host: x\r\n", "X-A: " + "a" * 8000 + "\r\n"
+    left = 131_072 - len(f"GET /health HTTP/1.1\r\n{host}{16 * fill}X-B: \r\n\r\n")
+    for target, fields, status in [
+        ("/" + "x" * 65_535, host, 404), ("/" + "x" * 65_536, host, 400),
+        ("/health", f"{host}{16 * fill}X-B: {'b' * left}\r\n", 200), ("/health", f"{host}{16 * fill}X-B: {'b' * left}b\r\n", 400),
+        ("/health?" + "&".join(map(str, range(50))), host, 200), ("/health?" + "&".join(map(str, range(51))), host, 400),
+        ("/health", f"{host}Content-Length: 00\r\n", 200), ("http://x:1/health?a", "Host: other.example\r\n", 200),
+        ("/nodes/length?from=%31&to=2", host, 200), ("/nodes/length?&from=1&&to=2&", host, 200),
+    ]:
+        assert get(target, fields).status == status, (target[:99], fields[:99])
+    head = f"GET /health HTTP/1.1\r\n{host}{16 * fill}X-B: {'b' * left}\r\n\r\n".encode()
+    assert {classify_head(head[:end]) for end in range(-9, 0)} == {HeadState.PARTIAL} and get("/health", "", version="1.0").status == 200
+    policies = {"referrer-policy": "no-referrer", "cache-control": "no-cache"}
+    kinds = {".css": "text/css", ".js": "text/javascript", ".svg": "image/svg+xml", ".html": "text/html"}
+    files = {f"/map/{file.name}": file for file in (PYTHON / "domethyme_service/page").iterdir() if file.name != "index.html"}
+    for path, file in {"/": PYTHON / "domethyme_service/page/index.html", **files, "/health": None, "/nothing": None}.items():
+        found = get(path)
+        assert get(path, method="HEAD") == found._replace(body=b"")
+        assert (found.fields["x-content-type-options"], int(found.fields["content-length"])) == ("nosniff", len(found.body))
+        if file is not None:
+            assert (found.body, found.fields["content-type"].partition(";")[0]) == (file.read_bytes(), kinds[file.suffix])
+            assert found.fields.items() >= policies.items() and "default-src 'none'" in found.fields["content-security-policy"]
+    about, size = get("/map/about"), case.service.size
+    assert about.fields["cache-control"] == "no-cache" and json.loads(about.body) == {
+        "box": [0, 0, 0.003, 0.004], "attribution": "© the town", "deepest": 16, "grid": 1024, "version": mock.ANY, "unit": "duration"
+    }
+    assert (size.nodes, size.links, size.points, size.degrees) == (2, 2, 3, pytest.approx(0.005))
+    write_network(one_road((0.0, 0.0), (0.0, 0.004), (0.003, 0.004)), tmp_path / "v", "--attribution", "© the town")
+    assert InProcess(tmp_path).answer(b"GET /map/about HTTP/1.0\r\n\r\n").body != about.body  # (by its version)
 
 
 class MalformedTests(ServiceCase):
