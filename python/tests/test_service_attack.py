@@ -255,7 +255,7 @@ class BrowserTests(ServiceCase):
         line = '{"from": 1, "to": 1}'
         for kind in ("text/plain", "application/x-www-form-urlencoded", "multipart/form-data", ""):
             self.assertEqual(self.ask("/nodes/lengths", "POST", line, {"Content-Type": kind})[0], 415)
-        for kind in ("application/json", "application/x-ndjson; charset=utf-8"):
+        for kind in ("application/json", "application/x-ndjson; charset=utf-8", "application/json ;charset=utf-8"):
             self.assertEqual(self.ask("/nodes/lengths", "POST", line, {"Content-Type": kind})[0], 200)
         for path, allowed in (("/nodes/lengths", "POST"), ("/health", "GET, HEAD")):
             self.assertEqual((self.ask(path, "OPTIONS")[0], self.headers["Allow"]), (405, allowed))
@@ -265,17 +265,38 @@ class BrowserTests(ServiceCase):
         mine = {"Origin": "https://map.example", "Sec-Fetch-Site": "cross-site", "Sec-Fetch-Mode": "cors"}
         self.assertEqual(self.ask(PATH, headers=mine)[0], 200)
         self.assertEqual((self.headers["Access-Control-Allow-Origin"], self.headers["Vary"]), ("https://map.example", "Origin"))
+        self.assertEqual(self.ask(f"{PATH}x", headers=mine)[0], 400)
+        self.assertEqual(self.headers["Access-Control-Allow-Origin"], "https://map.example")
         self.assertEqual(self.ask(PATH, headers={**mine, "Origin": "https://evil.example"})[0], 403)
         self.assertEqual(self.ask(PATH, headers={"Sec-Fetch-Site": "cross-site"})[0], 403)
         status = self.raw(b"OPTIONS /nodes/lengths HTTP/1.1\r\nHost: x\r\nOrigin: https://map.example\r\nConnection: close\r\n"
                           b"Access-Control-Request-Method: POST\r\nAccess-Control-Request-Headers: content-type\r\n\r\n")
-        self.assertRegex(status, rb"(?s)^HTTP/1.1 204 .*Access-Control-Allow-Headers: Content-Type")
+        self.assertRegex(status, rb"(?s)^HTTP/1.1 204 .*-Allow-Methods: GET, POST\r\n.*-Allow-Headers: Content-Type\r\n")
 
     def test_addresses(self):
-        self.assertTrue(access.is_address("[::1]", "::1") and access.is_address("10.0.0.7", "::ffff:10.0.0.7"))
+        for name, local in (("[::1]", "::1"), ("10.0.0.7", "::ffff:10.0.0.7"), ("[::ffff:10.0.0.7]", "::ffff:10.0.0.7"),
+                            ("[fe80::1]", "fe80::1%eth0"), ("localhost", "::1"), ("localhost", "::ffff:127.0.0.1"), ("localhost", "127.8.0.1")):
+            self.assertTrue(access.is_address(name, local), (name, local))
         self.assertFalse(access.is_address("10.0.0.8", "10.0.0.7") or access.is_address("localhost", "10.0.0.7"))
-        allowed = access.AccessPolicy.from_options(["Routes.Example"], "none")
-        self.assertTrue(allowed.allows_host("routes.example:443", "10.0.0.7"))
+        for name, host, is_allowed in (("Routes.Example", "routes.example:443", True), ("*", "any.example", True), ("*", "any example", False)):
+            self.assertEqual(access.AccessPolicy.from_options([name], "none").allows_host(host, "10.0.0.7"), is_allowed)
+
+
+@pytest.mark.parametrize("cors, host, origin, site, status", [
+    ("none", "x:81", "http://X:81", "none", 200), ("none", "X:81", "http://x:81", "none", 200),
+    ("none", "x", "http://x:81", "none", 403), ("none", "x", "null", "none", 403), ("none", None, "http://x", "none", 403), ("none", "x", "none", "cross-site", 403),
+    # (a proxy may have changed the host: the browser knows better)
+    ("none", "x", "http://other", "same-origin", 200), ("none", "x", "http://other", "same-site", 403),
+    ("*", "x", "http://other", "cross-site", 200), ("*", "other", "http://other", "cross-site", 421),
+    ("https://other", "x", "http://other", "cross-site", 403), ("https://other", "other", "https://other", "cross-site", 421),
+])
+def test_origins(cors, host, origin, site, status):
+    policy = access.AccessPolicy.from_options(["x"], cors)
+    with contextlib.nullcontext() if status == 200 else pytest.raises(RequestError) as raised:
+        policy.check(host, "10.0.0.7", {"HTTP_ORIGIN": origin, "HTTP_SEC_FETCH_SITE": site}, False)
+    assert status == 200 or raised.value.status == status
+    vary = {"Vary": "Origin"} if cors.startswith("https") else {}
+    assert policy.headers == ({} if cors == "none" else {"Access-Control-Allow-Origin": cors, **vary})
 
 
 class FramingTests(ServiceCase):
@@ -295,7 +316,7 @@ class FramingTests(ServiceCase):
         """Sixty fields of one form are parsed: no pattern takes exponential time, which no limit would see the end of. More than
         a hundred are rejected."""
         self.serve()
-        for count, status in ((60, 200), (500, 400)):
+        for count, status in ((60, 200), (99, 200), (100, 400), (500, 400)):
             answer = self.raw(f"GET {PATH} HTTP/1.1\r\nHost: x\r\n".encode() + b"x-a: b\r\n" * count + b"\r\n")
             self.assertRegex(answer, rb"^HTTP/1\.1 %d " % status)
 
