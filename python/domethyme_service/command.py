@@ -98,7 +98,7 @@ def refuse_option(parser: argparse.ArgumentParser, message: str, _text: str) -> 
 
 def int_between(low: int, high: int) -> Callable[[str], int]:
     def parse(text: str) -> int:
-        if not text.isascii() or not text.isdigit() or not low <= int(text[:12]) <= high:
+        if not text.isascii() or not text.isdigit() or len(text) > 12 or not low <= int(text) <= high:
             raise argparse.ArgumentTypeError(f"has to be from {low} to {high}")
         return int(text)
 

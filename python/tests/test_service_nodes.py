@@ -7,10 +7,18 @@ import socket
 import subprocess
 import time
 
+from unittest import mock
+
+import pytest
 from service_case import ServiceCase, workers_of
 from tool_case import ROOT, SECONDS, TOOLS
 
+from domethyme import find_program
 from domethyme_service import command
+from domethyme_service.access import AccessPolicy
+from domethyme_service.dataset import DatasetPaths
+from domethyme_service.errors import StartupError
+from domethyme_service.wsgi import Options
 
 
 class NodesTests(ServiceCase):
@@ -135,3 +143,67 @@ class CommandTests(ServiceCase):
         words[1] = self.folder / "none"
         self.assertIn("none: No such file", self.run_program(words, status=1).stderr)
         self.run_program([*words, "--workers", "0"], status=2)
+
+
+WORDS = "--network net --verify g.gr --towards --exclude toll=a=b.rch --exclude ferry=c.rch --radius 7 --max-table-cells 9 --profile car " \
+    "--profile van --allowed-host A.example --allowed-host b --cors https://c.example:8443 --workers 5 --log-places"
+EXCLUDED = {frozenset({"toll"}): "a=b.rch", frozenset({"ferry"}): "c.rch"}
+
+
+@pytest.mark.parametrize("words, paths, options, more", [
+    ("--compare-all", DatasetPaths("a.rch", None, compare_all=True),
+     Options(AccessPolicy(frozenset(), "none"), 1000, 1_000_000, []), (4, True, False)),
+    (WORDS, DatasetPaths("a.rch", "net", "g.gr", find_program(), False, True, EXCLUDED),
+     Options(AccessPolicy(frozenset({"a.example", "b"}), "https://c.example:8443"), 7, 9, ["car", "van"]), (5, True, True)),
+], ids=["one", "others"])
+def test_what_the_options_start(words, paths, options, more):
+    with mock.patch.multiple(command, Application=mock.DEFAULT, open_sockets=lambda _args: (["fd://9"], True)) as patched:
+        command.main(["a.rch", *words.split()])
+    patched["Application"].assert_called_once_with(paths, options, ["fd://9"], *more)
+
+
+@pytest.mark.parametrize("option, low, high", [
+    ("--radius", 0, 10_000_000), ("--port", 0, 65_535), ("--workers", 1, 64), ("--max-table-cells", 1, 4_000_000)
+])
+def test_numbers_of_options(option, low, high):
+    parse = command.argument_parser().parse_args
+    for number in (low, high):
+        assert vars(parse(["a.rch", option, f"0{number}"]))[option[2:].replace("-", "_")] == number
+    for text in (low - 1, high + 1, "", "1.5", "+1", "\N{SUPERSCRIPT TWO}", f"{'0' * 12}{high + 1}", "9" * 5000):
+        with pytest.raises(SystemExit, match="2"):
+            parse(["a.rch", f"{option}={text}"])
+
+
+@pytest.mark.parametrize("words", ["--exclude toll=a --exclude toll=b", "--cors https://a.example/", "--cors https://", "--cors a://b?c"])
+def test_options_that_are_refused(words):
+    with pytest.raises(SystemExit, match="2"):
+        command.main(["a.rch", *words.split()])
+
+
+def test_sockets(tmp_path, monkeypatch):
+    """Of two that systemd passes one is for probes. At a unix socket's path only a socket at which nobody listens is replaced; a port
+    is free once its service has ended."""
+    path = tmp_path / "serve.sock"
+    with socket.socket(socket.AF_UNIX) as first, socket.socket(socket.AF_UNIX) as asking:
+        first.bind(str(path))
+        monkeypatch.setattr(command.systemd, "SD_LISTEN_FDS_START", first.fileno())
+        for count, has_probe in ((1, False), (2, True)):  # (the socket and the one that is open next)
+            monkeypatch.setattr(command.systemd, "listen_fds", lambda count=count, **_words: count)
+            assert command.open_sockets(None) == ([], has_probe)
+        first.listen(0)
+        asking.connect(str(path))  # (as many as wait, so that another one is told to come again)
+        with pytest.raises(StartupError, match="another service does"):
+            command.listen_unix(str(path))
+    os.close(int(command.listen_unix(str(path)).removeprefix("fd://")))
+    path.unlink()
+    path.write_text("a file")
+    with pytest.raises(StartupError, match="Address already in use"):
+        command.listen_unix(str(path))
+    assert path.read_text() == "a file"
+    address = "127.8.0.1", 0
+    for _ in range(2):
+        with socket.socket(fileno=int(command.listen_tcp(*address).removeprefix("fd://"))) as listening:
+            address = listening.getsockname()
+            with socket.create_connection(address):
+                listening.accept()[0].close()
+    command.check_loopback("::1")
