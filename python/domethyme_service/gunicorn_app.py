@@ -201,6 +201,8 @@ class Arbiter(gunicorn.arbiter.Arbiter):  # type: ignore[misc] # (gunicorn has n
             self.is_opening = False
         self.old_workers, self.pending_reloads = list(self.WORKERS.values()), self.pending_reloads + 1
         gc.unfreeze()
+        # (as many as SIGTTIN and SIGTTOU have left)
+        self.app.workers = self.num_workers
         self.app.callable, self.app.generation = service, self.app.generation + 1
         del service
         self.reload()

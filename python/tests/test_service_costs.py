@@ -125,13 +125,6 @@ def test_contours_by_metres_cost_what_is_driven_in_minutes(minutes):
     assert cost("isochrone", 1, f"contours_meters={metres:.0f}") == pytest.approx(cost("isochrone", 1, f"contours_minutes={minutes}"), rel=0.01)
 
 
-@pytest.mark.parametrize("service", ["route", "trip", "match"])
-def test_places_on_both_sides_of_the_180th_meridian_cost_what_others_do(service):
-    moved = [f"{(float(lon) + 171 + 180) % 360 - 180:.3f},{lat}" for lon, lat in (each.split(",") for each in FAR)]
-    assert {each[0] == "-" for each in moved[:9]} == {True, False}
-    assert cost(service, 9, "", moved) == pytest.approx(cost(service, 9, ""))
-
-
 @drawn(60)
 @given(st.integers(1, 10**7), st.integers(0, 10**8), st.integers(0, 40), st.integers(0, 40))
 def test_what_calls_of_the_library_cost(nodes, links, sources, targets):

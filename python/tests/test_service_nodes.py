@@ -145,8 +145,9 @@ class CommandTests(ServiceCase):
         self.run_program([*words, "--workers", "0"], status=2)
 
 
-WORDS = "--network net --verify g.gr --towards --exclude toll=a=b.rch --exclude ferry=c.rch --radius 7 --max-table-cells 9 --profile car " \
-    "--profile van --allowed-host A.example --allowed-host b --cors https://c.example:8443 --workers 5 --log-places"
+# (some by their old names)
+WORDS = "--network net --checked g.gr --towards --exclude toll=a=b.rch --exclude ferry=c.rch --default-radius 7 --table-cells 9 " \
+    "--profile car --profile van --allowed-host A.example --allowed-host b --cors https://c.example:8443 --fronts 5 --log-places"
 EXCLUDED = {frozenset({"toll"}): "a=b.rch", frozenset({"ferry"}): "c.rch"}
 
 
@@ -174,15 +175,15 @@ def test_numbers_of_options(option, low, high):
             parse(["a.rch", f"{option}={text}"])
 
 
-@pytest.mark.parametrize("words", ["--exclude toll=a --exclude toll=b", "--cors https://a.example/", "--cors https://", "--cors a://b?c"])
+@pytest.mark.parametrize("words", ["--exclude toll=a --exclude toll=b", "--cors https://a.org/", "--cors https://", "--cors a://b?c"])
 def test_options_that_are_refused(words):
     with pytest.raises(SystemExit, match="2"):
         command.main(["a.rch", *words.split()])
 
 
 def test_sockets(tmp_path, monkeypatch):
-    """Of two that systemd passes one is for probes. At a unix socket's path only a socket at which nobody listens is replaced; a port
-    is free once its service has ended."""
+    """Of two that systemd passes one is for probes. At a unix socket's path only one at which nobody listens is replaced; a port is
+    free once its service has ended."""
     path = tmp_path / "serve.sock"
     with socket.socket(socket.AF_UNIX) as first, socket.socket(socket.AF_UNIX) as asking:
         first.bind(str(path))

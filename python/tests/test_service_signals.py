@@ -9,12 +9,19 @@ import socket
 import sys
 import threading
 import time
-import unittest.mock
+from unittest import mock
 
+import pytest
 from service_case import IMPORT, PATIENT, ServiceCase, without_end, workers_of
 from tool_case import SECONDS, is_running
 
 import domethyme
+from domethyme_service import gunicorn_app
+from domethyme_service.dataset import DatasetPaths
+from domethyme_service.errors import StartupError
+from domethyme_service.gunicorn_app import Application, Arbiter, child_exit
+from domethyme_service.metrics import SharedMetrics
+from domethyme_service.worker import Worker
 
 PATH = "/nodes/length?from=1&to=2"
 
@@ -154,7 +161,7 @@ command.main()
                 with contextlib.suppress(BlockingIOError):
                     while True:
                         filler.sendto(b"x", str(self.folder / "notify"))
-            with unittest.mock.patch.dict(os.environ, NOTIFY_SOCKET=str(self.folder / "notify")):
+            with mock.patch.dict(os.environ, NOTIFY_SOCKET=str(self.folder / "notify")):
                 process = self.serve()
             self.assertEqual(self.ask("/health")[0], 200)
             process.send_signal(signal.SIGTERM)
@@ -212,6 +219,7 @@ command.main()
         self.wait_for(lambda: any("reloaded" in line for line in self.said))
         self.assertEqual({self.ask(PATH)[1]["length"] for _ in range(20)}, {2 * old})
         self.wait_for(lambda: len(workers_of(process)) == 4)
+        self.assertEqual(self.value("worker_restarts_total"), 1)
         workers = workers_of(process)
         process.send_signal(signal.SIGTERM)
         self.assertEqual(process.wait(SECONDS), 0)
@@ -227,12 +235,12 @@ command.main()
                 process.send_signal(signal.SIGTTOU)
                 self.wait_for(lambda: len(workers_of(process)) == max(2, count - 1))
                 self.assertEqual([self.health(name) for name in ("serve.sock", "serve.sock.probe")], [b"200", b"200"])
-            for count in range(3, 6):
+            for count in range(3, 7 - round_):  # (which a reload leaves)
                 process.send_signal(signal.SIGTTIN)
                 self.wait_for(lambda: len(workers_of(process)) == count)
             process.send_signal(signal.SIGHUP)
             self.wait_for(lambda: sum("reloaded" in line for line in self.said) == round_ + 1)
-            self.wait_for(lambda: len(workers_of(process)) == 5)
+            self.wait_for(lambda: len(workers_of(process)) == count)
 
     def test_a_socket_that_is_in_use(self):
         """Another service refuses it; it takes one that is left behind, and drops fields whose names gunicorn would take for others."""
@@ -253,3 +261,82 @@ command.main()
             stream.connect(str(self.folder / name))
             stream.sendall(f"GET /health HTTP/1.1\r\nHost: x\r\n{fields}\r\n".encode())
             return stream.makefile("rb").readline().split()[1]
+
+
+def test_settings_of_gunicorn(monkeypatch):
+    """Those of docs/OPERATING.md, some of which the environment changes."""
+    for more, seconds in (("", 30), ("--graceful-timeout 9", 9)):
+        monkeypatch.setenv("GUNICORN_CMD_ARGS", f"--timeout 5 --worker-class gthread --workers 9 --bind 0.0.0.0:1 --backlog 7 {more}")
+        cfg = Application(DatasetPaths("v.rch", None), None, ["fd://9"], 4, True, False).cfg
+        assert (cfg.timeout, cfg.workers, cfg.bind, cfg.backlog, cfg.graceful_timeout) == (30, 5, ["fd://9"], 7, seconds)
+        assert cfg.worker_class is Worker and cfg.preload_app
+
+
+@pytest.fixture
+def arbiter():
+    """An arbiter without processes, with two workers."""
+    found = Arbiter.__new__(Arbiter)
+    found.app, found.wakeup, found.SIG_QUEUE = mock.Mock(metrics=SharedMetrics(3)), mock.Mock(), []
+    found.WORKERS = {number: Worker.__new__(Worker) for number in (1 << 23, 2 << 23)}
+    for worker, row in zip(found.WORKERS.values(), found.app.metrics.rows[1:]):
+        worker.row, worker.pid = row, 0
+        row.process = row.workers = row.requests_waiting = 3
+    return found
+
+
+@pytest.mark.parametrize("report, says", [(b"", "the process that opens the files has ended"), (b"v.rch: \xff", "v.rch: \ufffd")])
+def test_a_trial_that_has_ended(arbiter, caplog, report, says):
+    """Also where it was killed: the log says why, and the metrics do, and the files stay."""
+    reads, writes = os.pipe()
+    os.write(writes, report)
+    os.close(writes)
+    arbiter.end_trial(reads)
+    own = arbiter.app.metrics.own
+    assert (own.last_reload_failed, own.reload_failures_total, own.last_reload_timestamp_seconds) == (1, 1, 0)
+    assert (caplog.messages, arbiter.app.load.called, arbiter.trial) == ([f"reload refused: {says}"], False, None)
+
+
+def test_signals_while_files_are_opened(arbiter):
+    """One to end interrupts that, which is no failure; others wait."""
+    arbiter.signal(signal.SIGTERM, None)
+
+    def load(_paths):
+        arbiter.signal(signal.SIGHUP, None)
+        arbiter.signal(signal.SIGINT, None)
+
+    arbiter.app.load = load
+    arbiter.reload_files("ready 1")
+    assert arbiter.SIG_QUEUE == [signal.SIGTERM, signal.SIGHUP, signal.SIGINT]
+    assert (arbiter.is_opening, arbiter.app.metrics.own.reload_failures_total) == (False, 0)
+
+
+@pytest.mark.parametrize("graceful, number", [(True, signal.SIGTERM), (False, signal.SIGQUIT)])
+def test_how_workers_end(arbiter, graceful, number):
+    """By SIGTERM, or at once by SIGQUIT, and if they don't then, by SIGKILL. Only those that nobody has ended are counted as restarts."""
+    arbiter.cfg, killed = mock.Mock(graceful_timeout=0), []
+    child_exit(arbiter, next(iter(arbiter.WORKERS.values())))
+    with mock.patch("os.kill", lambda *words: killed.append(words)):
+        arbiter.stop(graceful)
+    assert killed == [(pid, each) for each in (number, signal.SIGKILL) for pid in arbiter.WORKERS]
+    for worker in arbiter.WORKERS.values():
+        child_exit(arbiter, worker)
+        assert (worker.row.process, worker.row.workers, worker.row.requests_waiting) == (0, 0, 0)
+    assert arbiter.app.metrics.own.worker_restarts_total == 1
+
+
+@pytest.mark.parametrize("name", ["{}/notify", "@{}/notify"])
+def test_systemd_is_told(tmp_path, name):
+    with socket.socket(socket.AF_UNIX, socket.SOCK_DGRAM) as stream:
+        stream.bind(name.format(tmp_path).replace("@", "\0"))
+        gunicorn_app.notify_systemd(name.format(tmp_path))
+        assert stream.recv(100, socket.MSG_DONTWAIT) == b"READY=1"
+
+
+def test_what_a_trial_reports():
+    """The state of each hierarchy; an error in one line, with the kind of one that isn't expected."""
+    def stamped(*stamps):
+        return mock.Mock(dataset=mock.Mock(stamp=stamps[0], excluded={each: mock.Mock(stamp=each) for each in stamps[1:]}))
+
+    assert gunicorn_app.ready_message(stamped((1, 2), (3, 4))) == "ready 1 2 3 4"
+    for error, text in ((StartupError("a\n  b"), "a b"), (OSError(2, "none", "p"), "[Errno 2] none: 'p'"), (KeyError("a"), "KeyError: 'a'")):
+        assert gunicorn_app.failure_reason(error) == text
