@@ -28,7 +28,8 @@ class LossyWriter(io.RawIOBase):
         except OSError:
             sent = 0
         if sent < len(whole):
-            self.on_lost(whole.count(b"\n", sent))
+            # (the end of the line that was cut has been counted)
+            self.on_lost(whole.count(b"\n", max(sent, len(whole) - len(data))))
         self._is_cut = self._is_cut if sent == 0 else sent < len(whole)
         return len(data)
 

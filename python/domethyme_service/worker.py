@@ -288,7 +288,7 @@ class Worker(SyncWorker):  # type: ignore[misc] # (gunicorn has no types)
 
     def refuse(self, connection: Connection) -> None:
         """Rejects a request that has waited too long, or among too many."""
-        self.row.long_requests_refused_total += 1
+        self.row.long_requests_refused_total += connection.is_long
         self.row.requests_waiting = sum(each.answer is None for each in self.queue)
         kind = "long requests" if connection.is_long else "requests"
         self.reject(connection, RequestError(503, "Overloaded", f"too many {kind} at once"))

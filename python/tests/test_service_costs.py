@@ -11,6 +11,7 @@ import re
 import resource
 import signal
 import socket
+import subprocess
 import sys
 import time
 from unittest import mock
@@ -24,7 +25,7 @@ from hypothesis import strategies as st
 from nginx_case import NginxCase
 from service_case import IMPORT, ServiceCase, workers_of
 from test_generated_service import ask, open_service
-from tool_case import ROOT, SECONDS
+from tool_case import PYTHON, ROOT, SECONDS
 
 from domethyme_service import endpoints, queries, slots, worker
 from domethyme_service.costs import MOST, SHORT, Meter, NeedsSlot, Size, Work, expected
@@ -183,14 +184,14 @@ def test_a_meter_ends_what_costs_too_much():
 
 def test_slots_are_shared_fairly():
     """Each set of slots stands for a process: a client has half of the long ones, and a public one is answered by half of the workers."""
-    found = Slots(8)
+    found, other = Slots(8), Slots(10)
 
-    def in_process(client, is_long):
+    def in_process(client, is_long, slots_of=found):
         """Whether a process gets its slots, which it keeps until the test ends."""
         reads, writes = os.pipe()
         if not (child := os.fork()):
             os.close(ends[1])
-            os.write(writes, b"%d" % found.acquire(client, is_long))
+            os.write(writes, b"%d" % slots_of.acquire(client, is_long))
             os.read(ends[0], 1)
             os._exit(0)
         children.append(child)
@@ -202,6 +203,8 @@ def test_slots_are_shared_fairly():
         assert [in_process(A, False) for _ in range(3)] == [True, True, False]
         assert [in_process(OTHER, True) for _ in range(3)] == [True, True, False]
         assert [in_process(OTHER, False) for _ in range(9)] == [True] * 9
+        assert [in_process(OTHER, True, other) for _ in range(3)] == [True, True, False]
+        assert [in_process(Client(), True, other) for _ in range(4)] == [True, True, True, False]  # (which is no client)
         assert [in_process(B, True), in_process(B, False)] == [False, True]
         os.kill(children[0], signal.SIGKILL)
         os.waitpid(children.pop(0), 0)
@@ -247,7 +250,7 @@ class Waiting:
     which each costs what has the service's meter call it."""
 
     def __init__(self, seconds):
-        self.now, self.seconds, self.served, self.refused = 0.0, seconds, [], []
+        self.now, self.seconds, self.served, self.refused, self.messages = 0.0, seconds, [], [], []
         self.worker = worker.Worker.__new__(worker.Worker)
         metrics, self.meter = SharedMetrics(2), Meter()
         self.worker.app, self.worker.row, self.worker.is_probe = mock.Mock(metrics=metrics), metrics.rows[0], False
@@ -273,9 +276,10 @@ class Waiting:
                 assert self.worker.row.reported == self.now, "it reports that it is alive"
             yield b""
 
-    def reject(self, connection, _error):
+    def reject(self, connection, error):
         assert self.now < connection.deadline + 0.2, "nobody waits longer than its limit"
         self.refused.append(connection)
+        self.messages.append(error.message)
 
     @contextlib.contextmanager
     def clock(self):
@@ -323,18 +327,59 @@ def test_a_request_that_is_refused_is_counted_and_logged():
     """By its endpoint if it has waited for a slot, and with the time that it has waited; and one that can't be read."""
     case, (client, other) = Waiting(0.1), socket.socketpair()
     case.worker.epoll, case.worker.reject = mock.Mock(), functools.partial(worker.Worker.reject, case.worker)
+    case.worker.log_places, names = True, ("method", "endpoint", "status", "milliseconds", "error", "path", "remote", "message")
     with case.clock(), contextlib.closing(client), contextlib.closing(other), mock.patch.object(worker, "access_log") as log:
         waits, malformed = case.connection(), worker.Connection(client, ("127.0.0.1", 1), 0.0)
         waits.client, waits.environ["domethyme.endpoint"] = client.dup(), "/table"
+        waits.request.configure_mock(uri="/table/x", headers=[("X-REAL-IP", "10.0.0.1")])
         case.worker.queue.append(waits)
         case.now = worker.SLOT_SECONDS + 0.1
         case.worker.tick()
         case.worker.read_request(malformed, worker.HeadState.MALFORMED)
+        assert b"\r\nRetry-After: 1\r\n" in other.recv(1000)
     lines = [json.loads(call.args[0]) for call in log.info.call_args_list]
-    shown = [tuple(line[name] for name in ("method", "endpoint", "status", "milliseconds", "error")) for line in lines]
-    assert shown == [("GET", "/table", 503, 5100.0, "Overloaded"), (None, "other", 400, 0.0, "InvalidUrl")]
+    assert [tuple(map(line.get, names)) for line in lines] == [
+        ("GET", "/table", 503, 5100.0, "Overloaded", "/table/x", "10.0.0.1", "too many long requests at once"),
+        (None, "other", 400, 0.0, "InvalidUrl", None, "127.0.0.1", "the request cannot be read")
+    ]
     text = case.worker.app.metrics.text(1)
     assert 'requests_total{endpoint="/table",status="503"} 1' in text and 'request_seconds_sum{endpoint="/table"} 5.1' in text
+
+
+def test_what_waits_for_the_same_is_answered_first():
+    """And what doesn't isn't held up. A short request that is refused is counted as none of the long ones."""
+    case = Waiting(0.1)
+    with case.clock():
+        first = case.connection()
+        case.worker.queue.append(first)
+        others = case.connection(), case.connection(B), case.connection(is_long=False)
+        for each in others:
+            case.worker.serve_or_queue(each)
+        assert (case.worker.queue, case.served) == ([first, others[0]], [*others[1:]])
+        case.worker.refuse(case.connection(is_long=False))
+    assert (case.worker.row.long_requests_refused_total, case.messages) == (0, ["too many requests at once"])
+
+
+def test_a_head_that_comes_too_late():
+    case = Waiting(0.1)
+    case.worker.epoll = mock.Mock()
+    with case.clock():
+        case.worker.awaiting_head = {9: case.connection(), 8: case.connection()}
+        for case.now, left in ((worker.SLOT_SECONDS, 2), (worker.SLOT_SECONDS + 0.1, 0)):
+            case.worker.take_turn()
+            assert len(case.worker.awaiting_head) == left
+    assert case.messages == ["the request's head has not come whole"] * 2 and worker.HEAD_SECONDS == 10
+
+
+@pytest.mark.parametrize("taken", range(12))
+def test_an_answer_that_the_kernel_takes_in_parts(taken):
+    """As it does where a signal comes."""
+    got, client = [], mock.Mock(sendall=lambda data: got.append(bytes(data)))
+    client.sendmsg = lambda parts: len(got.append(b"".join(parts)[:taken]) or got[-1])
+    head = worker.BufferedHead(client)
+    for part in (b"head", b"body", b"more"):
+        head.sendall(part)
+    assert b"".join(got) == b"headbodymore"
 
 
 def test_a_batch_frees_its_slot_between_blocks():
@@ -380,6 +425,38 @@ def test_standard_error_that_nobody_reads():
     os.close(reads)
     writer.write(line)  # (a broken pipe is no error)
     os.close(writes)
+
+
+def test_a_line_that_was_cut():
+    """Only its end is lost, and the next one that is taken begins a line of its own. Each line is counted once."""
+    got, lost, room = [], [], iter([0, 3, 0, 0, 100, 100])
+
+    def send(data):
+        got.append(data[: next(room)])
+        return len(got[-1]) or os.write(-1, data)
+
+    writer = LossyWriter(send)
+    writer.on_lost = lost.append
+    for line in (b"zero\n", b"one\n", b"two\n", b"3\n4\n", b"five\n", b"six\n"):
+        assert writer.write(line) == len(line)
+    assert (b"".join(got), lost) == (b"one\nfive\nsix\n", [1, 1, 1, 2])
+
+
+@pytest.mark.parametrize("kind", ["pipe", "socket", "file"])
+def test_where_lines_go(tmp_path, kind):
+    """To a file all of them; a pipe or a socket that nobody reads holds nobody up. Any characters are written."""
+    script = f"import sys\nsys.path.insert(0, {str(PYTHON)!r})\nfrom domethyme_service.log_stream import keep_from_blocking\n"
+    script += "lost, stream = [], keep_from_blocking()\nif stream:\n stream.on_lost = lost.append\n"
+    script += "for _ in range(20_000):\n sys.stderr.write('\\udcff \u00e9\\n')\nprint(sum(lost))"
+    ends = os.pipe() if kind == "pipe" else [each.detach() for each in socket.socketpair()]
+    if kind == "file":
+        ends = [os.open(tmp_path / "log", os.O_RDWR | os.O_CREAT), os.open(tmp_path / "log", os.O_WRONLY)]
+    found = subprocess.run([sys.executable, "-c", script], stdout=subprocess.PIPE, stderr=ends[1], check=True, timeout=SECONDS)
+    lines = os.read(ends[0], 1 << 20).splitlines()
+    assert {*lines[:99]} == {b"\\udcff \xc3\xa9"}
+    assert (int(found.stdout) > 10_000, len(lines) == 20_000) == (kind != "file", kind == "file")
+    for end in ends:
+        os.close(end)
 
 
 def refusing(folder, name):

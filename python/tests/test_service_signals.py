@@ -266,7 +266,7 @@ command.main()
 def test_settings_of_gunicorn(monkeypatch):
     """Those of docs/OPERATING.md, some of which the environment changes."""
     for more, seconds in (("", 30), ("--graceful-timeout 9", 9)):
-        monkeypatch.setenv("GUNICORN_CMD_ARGS", f"--timeout 5 --worker-class gthread --workers 9 --bind 0.0.0.0:1 --backlog 7 {more}")
+        monkeypatch.setenv("GUNICORN_CMD_ARGS", f"--timeout 5 --worker-class gthread --workers 9 --bind :1 --backlog 7 {more}")
         cfg = Application(DatasetPaths("v.rch", None), None, ["fd://9"], 4, True, False).cfg
         assert (cfg.timeout, cfg.workers, cfg.bind, cfg.backlog, cfg.graceful_timeout) == (30, 5, ["fd://9"], 7, seconds)
         assert cfg.worker_class is Worker and cfg.preload_app
@@ -312,7 +312,7 @@ def test_signals_while_files_are_opened(arbiter):
 
 @pytest.mark.parametrize("graceful, number", [(True, signal.SIGTERM), (False, signal.SIGQUIT)])
 def test_how_workers_end(arbiter, graceful, number):
-    """By SIGTERM, or at once by SIGQUIT, and if they don't then, by SIGKILL. Only those that nobody has ended are counted as restarts."""
+    """By SIGTERM, or at once by SIGQUIT, and else by SIGKILL. Only one that nobody has ended is counted as a restart."""
     arbiter.cfg, killed = mock.Mock(graceful_timeout=0), []
     child_exit(arbiter, next(iter(arbiter.WORKERS.values())))
     with mock.patch("os.kill", lambda *words: killed.append(words)):
@@ -338,5 +338,5 @@ def test_what_a_trial_reports():
         return mock.Mock(dataset=mock.Mock(stamp=stamps[0], excluded={each: mock.Mock(stamp=each) for each in stamps[1:]}))
 
     assert gunicorn_app.ready_message(stamped((1, 2), (3, 4))) == "ready 1 2 3 4"
-    for error, text in ((StartupError("a\n  b"), "a b"), (OSError(2, "none", "p"), "[Errno 2] none: 'p'"), (KeyError("a"), "KeyError: 'a'")):
+    for error, text in ((StartupError("a\n  b"), "a b"), (OSError(2, "x"), "[Errno 2] x"), (KeyError("a"), "KeyError: 'a'")):
         assert gunicorn_app.failure_reason(error) == text
