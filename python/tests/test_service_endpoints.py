@@ -1,12 +1,14 @@
 """The table of endpoints: docs/SERVICE.md has it, each endpoint is answered, and its parameters are those that are
 parsed."""
 import json
+import os
 import re
 import subprocess
 import sys
 import unittest
 
-from service_case import ServiceCase
+import pytest
+from service_case import ServiceCase, resident
 from tool_case import TOOLS
 
 from domethyme_service import endpoints, metrics, openapi
@@ -97,6 +99,21 @@ class EndpointTests(ServiceCase):
             shape, health = {"$ref": "#/components/schemas/Health"}, {"status": "ok", "nodes": 1, "links": 1, "towards": True, "alternatives": 0}
             for value in ({"status": "ok", "nodes": 1}, {**health, "nodes": "1"}, {**health, "x": 1}):
                 self.assertTrue([*problems(value, shape, described["components"]["schemas"])])
+
+
+def test_metrics_of_several_processes():
+    """Sums of all, and the memory of the largest. A time at a bound is in its bucket; only what is called so is a total."""
+    found = metrics.SharedMetrics(4)
+    for row, process, seconds in zip(found.rows[1:], (os.getpid(), os.getpid(), 1 << 30), (0.001, 0.0011, 30.5)):
+        row.count("/table", 200, seconds)
+        row.process, row.queries_total = process, 2
+    text = found.text(7)
+    values = dict(line.removeprefix("domethyme_").rsplit(" ", 1) for line in text.splitlines() if line[0] != "#")
+    buckets = [values[f'request_seconds_bucket{{endpoint="/table",le="{bound}"}}'] for bound in ("0.001", "0.0025", "30.0", "+Inf")]
+    assert (buckets, values["nodes"], values["queries_total"], values["questions_total"]) == (["1", "2", "2", "3"], "7", "6", "6")
+    assert float(values["resident_memory_bytes"]) == pytest.approx(1024 * resident(os.getpid()), rel=0.1)
+    for name, kind in re.findall(r"(?m)^# TYPE domethyme_(\S+) (\S+)$", text):
+        assert kind == ("histogram" if name == "request_seconds" else "counter" if name.endswith("_total") else "gauge")
 
 
 KINDS = {"string": str, "number": (int, float), "integer": int, "boolean": bool, "object": dict, "array": list}
