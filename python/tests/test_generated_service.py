@@ -11,6 +11,7 @@ from collections.abc import Mapping, Sequence
 from typing import Any
 from unittest import mock
 
+import pytest
 from draws import (
     HIGHWAYS, KNOWN, LIMITS, ORIGINS, WORDS, WRONG, Drawn, directions, drawn, networks, one_road, places, texts_of, write_network
 )
@@ -24,7 +25,7 @@ from model.request import Request
 from model.steps import modifier_of
 
 import domethyme
-from domethyme_service import osrm_tables
+from domethyme_service import osrm_tables, tiles
 from domethyme_service.access import AccessPolicy
 from domethyme_service.dataset import DatasetPaths, open_dataset
 from domethyme_service.metrics import SharedMetrics
@@ -184,23 +185,26 @@ def words_of(codes: Mapping[str, Sequence[str]]) -> list[tuple[str, str]]:
 @given(st.data())
 def test_tiles(data: Any) -> None:
     """Each step of each road is in the tile that has its middle, to the grid, with its kind, and from zoom 14 its name; below that once."""
-    made = data.draw(networks(most=data.draw(st.sampled_from([3, 8])), origins=[ORIGINS[0], ORIGINS[3]]))
+    made = data.draw(networks(most=data.draw(st.sampled_from([3, 8])), origins=[ORIGINS[0], ORIGINS[1], ORIGINS[3]]))
     zoom = data.draw(st.sampled_from([16, 15, 14, 13, 9]))
-    wide, wanted = 1024 << zoom, []
+    wide, wanted, around = 1024 << zoom, [], set()
     for edge in made.tables.edges:
         arc = made.tables.arcs[min(edge.arcs)]
         line = [(round((lon / 360 + 0.5) * wide), round((0.5 - math.asinh(math.tan(math.radians(lat))) / math.tau) * wide)) for lon, lat in edge.line]
         kind = (*HIGHWAYS, "ferry").index(arc.highway)
-        wanted += [(min(kind, len(HIGHWAYS) - 1), arc.name, *sorted(step)) for step in itertools.pairwise(line)]
-    columns, rows = (sorted(place[side] // 1024 for step in wanted for place in step[2:]) for side in (0, 1))
-    assume((columns[-1] - columns[0]) * (rows[-1] - rows[0]) < 40)
+        for step in itertools.pairwise(line):
+            wanted.append((min(kind, len(HIGHWAYS) - 1), arc.name, *step))
+            x, y = step[0][0] + math.remainder(step[1][0] - step[0][0], wide) / 2, (step[0][1] + step[1][1]) / 2
+            around |= {((x // 1024 + east) % (1 << zoom), y // 1024 + south) for east in (-1, 0, 1) for south in (-1, 0, 1)}
+    assume(len(around) < 60)
     found = []
-    with tempfile.TemporaryDirectory() as folder:
+    with tempfile.TemporaryDirectory() as folder, mock.patch.object(tiles, "SEGMENTS_PER_CHUNK", 3):
         service = serve(made, pathlib.Path(folder))
-        sides = [*zip(*(point for edge in made.tables.edges for point in edge.line))]
-        assert ask(service, "/map/about")[1]["box"] == [min(sides[0]), min(sides[1]), max(sides[0]), max(sides[1])]
+        lons, lats = zip(*(point for edge in made.tables.edges for point in edge.line))
+        lons = [lon % 360 for lon in lons] if max(lons) - min(lons) > 180 else lons
+        assert ask(service, "/map/about")[1]["box"] == pytest.approx([min(lons), min(lats), max(lons), max(lats)], abs=1e-9)
         assert {ask(service, f"/map/roads/{zoom}/{x}/{y}")[0] for x, y in ((1 << zoom, 0), (0, 1 << zoom))} == {400}
-        for x, y in itertools.product(range(columns[0] - 1, columns[-1] + 2), range(rows[0] - 1, rows[-1] + 2)):
+        for x, y in ([*map(int, tile)] for tile in around):
             for road in ask(service, f"/map/roads/{zoom}/{x}/{y}")[1]["roads"]:
                 names = [road["names"][number] for number in road["name"]] if zoom >= 14 else [""] * len(road["lines"])
                 for line, name in zip(road["lines"], names, strict=True):
@@ -209,13 +213,15 @@ def test_tiles(data: Any) -> None:
                     assert all(abs((a[side] + b[side]) / 2048 - 0.5 - start) <= 0.502 for a, b in steps for side, start in ((0, x), (1, y)))
                     found += [(road["kind"], name, *step) for step in steps]
 
+    def apart(one: Any, other: Any) -> float:
+        return max(abs(math.remainder(one[0] - other[0], wide)), abs(one[1] - other[1]))
+
     def is_near(one: Any, other: Any) -> bool:
-        ends = [one[2:], one[:1:-1]]
-        is_there = any(max(abs(a - b) for pair in zip(each, other[2:]) for a, b in zip(*pair)) <= 1 for each in ends)
+        is_there = any(max(map(apart, ends, other[2:])) <= 1 for ends in (one[2:], one[:1:-1]))
         return one[0] == other[0] and (zoom < 14 or one[1] == other[1]) and is_there
 
     assert all(any(is_near(step, other) for other in wanted) for step in found)
-    assert all(any(is_near(step, other) for other in found) for step in wanted if math.dist(*step[2:]) > 2)
+    assert all(any(is_near(step, other) for other in found) for step in wanted if apart(*step[2:]) > 2)
     assert len(set(found)) == len(found) if zoom < 14 else len(wanted) >= len(found)
 
 

@@ -341,7 +341,7 @@ def test_a_short_body_is_waited_for() -> None:
 
 def test_requests_at_the_limits_and_fields_of_answers(tmp_path: pathlib.Path) -> None:
     """What is just allowed is answered, and one byte or one option more isn't. HEAD has the fields of GET."""
-    write_network(one_road((0.0, 0.0), (0.003, 0.0), (0.003, 0.004)), tmp_path / "v", "--attribution", "© the town")
+    write_network(one_road((0.0, 0.0), (12.0, 0.0), (12.0, 16.0)), tmp_path / "v", "--attribution", "© the town")
     case = InProcess(tmp_path)
 
     def get(target: str, fields: str = "Host: x\r\n", method: str = "GET", version: str = "1.1") -> Answer:
@@ -371,10 +371,11 @@ def test_requests_at_the_limits_and_fields_of_answers(tmp_path: pathlib.Path) ->
             assert (found.body, found.fields["content-type"].partition(";")[0]) == (file.read_bytes(), kinds[file.suffix])
             assert found.fields.items() >= policies.items() and "default-src 'none'" in found.fields["content-security-policy"]
     about, size = get("/map/about"), case.service.size
-    wanted = {"box": [0, 0, 0.003, 0.004], "attribution": "© the town", "deepest": 16, "grid": 1024, "unit": "duration"}
+    wanted = {"box": [0, 0, 12, 16], "attribution": "© the town", "deepest": 16, "grid": 1024, "unit": "duration"}
     assert (json.loads(about.body), about.fields["cache-control"]) == ({**wanted, "version": mock.ANY}, "no-cache")
-    assert (size.nodes, size.links, size.points, size.degrees) == (2, 2, 3, pytest.approx(0.005))
-    write_network(one_road((0.0, 0.0), (0.0, 0.004), (0.003, 0.004)), tmp_path / "v", "--attribution", "© the town")
+    assert (size.nodes, size.links, size.points, size.degrees) == (2, 2, 3, pytest.approx(20))
+    assert json.loads(get("/map/roads/0/0/0").body) == {"roads": [{"kind": 5, "lines": [[512, 512, 34, 0, 0, -46]]}]}
+    write_network(one_road((0.0, 0.0), (0.0, 16.0), (12.0, 16.0)), tmp_path / "v", "--attribution", "© the town")
     assert InProcess(tmp_path).answer(b"GET /map/about HTTP/1.0\r\n\r\n").body != about.body  # (by its version)
 
 

@@ -1,5 +1,4 @@
 """The service's page: its files and tiles over HTTP, its colours, and in a browser."""
-import itertools
 import json
 import math
 import os
@@ -10,18 +9,13 @@ import unittest
 import pytest
 from browser import Browser
 from service_case import ServiceCase
-from tool_case import PYTHON, contrast, read_rows
+from tool_case import PYTHON, contrast
 
 import domethyme
-from domethyme.network.geo import parse_linestring
 
 PAGE = PYTHON / "domethyme_service/page"
 HIGH = "#0.0003,0.00001;0.0077,-0.00002"
 PICTURES = os.environ.get("PICTURES_OF_PAGE")
-
-
-def plane(lon, lat):
-    return lon / 360 + 0.5, 0.5 - math.asinh(math.tan(math.radians(lat))) / (2 * math.pi)
 
 
 class FileTests(ServiceCase):
@@ -50,37 +44,6 @@ class FileTests(ServiceCase):
         self.serve()
         self.assertEqual(self.ask("/")[0], 200)
         self.assertEqual(self.ask("/map/about")[1]["code"], "InvalidService")
-
-    def test_tiles_have_each_step_of_each_road_once(self):
-        """At the greatest zoom, and at one where the village is one tile, to the grid."""
-        self.serve("--network", self.folder / "v")
-        about = self.ask("/map/about")[1]
-        lines = [parse_linestring(arc.wkt) for arc in read_rows(self.folder / "v.arcs.csv")]
-        lons, lats = zip(*itertools.chain(*lines))
-        for got, wanted in zip(about["box"], (min(lons), min(lats), max(lons), max(lats))):
-            self.assertAlmostEqual(got, wanted, places=7)
-        for zoom in (16, 9):
-            grid = about["grid"] << zoom
-            wanted = set()
-            for line in lines:
-                pixels = [tuple(round(side * grid) for side in plane(*point)) for point in line]
-                wanted.update(frozenset(pair) for pair in itertools.pairwise(pixels) if pair[0] != pair[1])
-            corners = plane(min(lons), max(lats)), plane(max(lons), min(lats))
-            columns, rows = (range(int(low * 2**zoom), int(high * 2**zoom) + 1) for low, high in zip(*corners))
-            found = [step for x in columns for y in rows for step in self.steps(zoom, x, y, about["grid"])]
-            self.assertEqual(len(found), len(set(found)))
-            near = {frozenset((x + east, y + south) for x, y in step) for step in found for east in (-1, 0, 1) for south in (-1, 0, 1)}
-            self.assertLessEqual(wanted, near)
-            self.assertLessEqual(abs(len(wanted) - len(found)), 3)
-
-    def steps(self, zoom, x, y, grid):
-        """The segments of a tile's lines, as pairs of points on the world's grid."""
-        for road in self.ask(f"/map/roads/{zoom}/{x}/{y}?v=1")[1]["roads"]:
-            self.assertLessEqual(set(road), {"kind", "lines", "names", "name"})
-            for line in road["lines"]:
-                places = list(zip(itertools.accumulate(line[::2]), itertools.accumulate(line[1::2])))
-                for pair in itertools.pairwise(places):
-                    yield frozenset((east + x * grid, south + y * grid) for east, south in pair)
 
 
 class ColourTests(unittest.TestCase):
