@@ -4,6 +4,7 @@ import contextlib
 import os
 import random
 import shutil
+import struct
 import subprocess
 import sys
 import unittest.mock
@@ -11,12 +12,15 @@ import unittest.mock
 import numpy as np
 import pandas as pd
 import pytest
+from draws import one_road, write_network
 from service_case import ServiceCase
 from tool_case import TOOLS, VILLAGE, ToolCase
 
 import domethyme
 from domethyme import belonging, links
 from domethyme.network import net_file
+from domethyme_service.dataset import DatasetPaths, open_dataset
+from domethyme_service.errors import StartupError
 from domethyme_tools import nearest, reach, table, to_geojson
 
 FOREIGN = "is the hierarchy of another network than"
@@ -244,6 +248,25 @@ class ServiceTests(ServiceCase):
             self.assertIn(says, ended.stderr)
         ended = self.run_tool("domethyme-serve", "v.rch", "--network", "nonet", "--port", "0", status=1)
         self.assertIn("domethyme-serve: nonet.net: No such file or directory", ended.stderr)
+
+
+def test_what_the_service_opens(tmp_path, caplog):
+    """With --compare-all all links are compared. A hierarchy that changes meanwhile is refused, and a network with another byte."""
+    write_network(one_road((0.0, 0.0), (0.001, 0.0)), tmp_path / "v")
+    paths, network = DatasetPaths(str(tmp_path / "v.rch"), str(tmp_path / "v")), tmp_path / "v.net"
+    with unittest.mock.patch.object(belonging, "MAX_COMPARED", 0):
+        open_dataset(paths._replace(compare_all=True))
+        assert not caplog.messages
+        open_dataset(paths)
+        assert "of its 2 links were compared" in caplog.text
+    with unittest.mock.patch.object(belonging, "compare", lambda *_: os.utime(paths.hierarchy)):
+        with pytest.raises(StartupError, match="v.rch: has changed"):
+            open_dataset(paths)
+    whole = bytearray(network.read_bytes())
+    whole[whole.rindex(struct.pack("<i", 10_000))] ^= 1  # (of the points of the road, which requests read)
+    network.write_bytes(whole)
+    with pytest.raises(domethyme.NetworkError, match="v.net: is damaged"):
+        open_dataset(paths)
 
 
 PLACES = "name,lon,lat\nc,0.002,0\na,0,0\n"

@@ -232,8 +232,11 @@ class MapTests(ToolCase):
         self.assertIn("it was started with toll and toll,tunnel", ask(service, f"{path}&exclude=tunnel")[1]["message"])
         self.assertEqual(ask(service, "/health")[1]["exclude"], [["toll"], ["toll", "tunnel"]])
         self.assertEqual(ask(service, "/isochrone/v1/car/0.005,0?contours_minutes=1&exclude=toll")[0], 200)
-        with self.assertRaises(domethyme.WrongHierarchy):
-            serve(self.folder / "net", {parse_classes("ferry"): str(self.folder / "net.rch")})
+        verified = {"graph": str(self.folder / "net.gr"), "program": domethyme.find_program()}
+        serve(self.folder / "net", excluded, **verified)
+        for more, says in (({}, "of another network"), (verified, "net.rch: not shown: ")):
+            with self.assertRaisesRegex(domethyme.DomethymeError, says):
+                serve(self.folder / "net", {parse_classes("ferry"): str(self.folder / "net.rch")}, **more)
         with self.assertRaisesRegex(StartupError, "needs --network"):
             open_dataset(DatasetPaths(str(self.folder / "net.rch"), None, excluded=excluded))
         for word, says in (("toll", "has no =HIERARCHY"), ("roads=x", "there is no class"), ("toll=", "has no =HIERARCHY")):
