@@ -247,6 +247,7 @@ def threads(task: domethyme_part.Task, jobs: int) -> Iterator[Workers]:
         raise
     finally:
         pool.shutdown(cancel_futures=True)
+        domethyme_part.stopping.clear()  # (all have ended)
 
 
 @contextlib.contextmanager

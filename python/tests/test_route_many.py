@@ -1,5 +1,6 @@
 """Tests of route_many: OUT is what one process of the program prints, by threads, by an array's tasks, and by Dask's workers
 on the loopback, also where workers are killed, runs are interrupted, or the input is bad."""
+import asyncio
 import collections
 import contextlib
 import hashlib
@@ -11,13 +12,16 @@ import shlex
 import signal
 import subprocess
 import time
+from unittest import mock
 
+import pytest
 from tool_case import SECONDS, TAKES_SIGNALS, TOOLS, ToolCase, end, is_running
 
+import domethyme_part
 from domethyme import find_program
 from domethyme.dimacs import write_graph
 
-from domethyme_tools import parts
+from domethyme_tools import parts, route_many
 
 from kit import plain
 
@@ -420,11 +424,60 @@ class RefusalTests(RouteManyCase):
         self.assertEqual(self.parts_begun().count("000000.pairs"), 1)
         self.assert_answered()
 
-    def test_a_status_that_the_program_does_not_have(self):
-        program = self.held_program(trouble="echo something else >&2; exit 9")
-        self.write("trouble", "")
-        ended = self.many("--jobs", 2, "--program", program, status=1)
-        self.assertEqual(ended.stderr, f"route_many: {program} ended with status 9: something else\n")
+
+@pytest.fixture
+def part(tmp_path):
+    """The task of a program that ends as the text of the pairs says, and the words of a part after it."""
+    program, hierarchy, pairs, answers = (tmp_path / name for name in ("program", "hierarchy", "000000.pairs", "answers"))
+    program.write_text('#!/bin/sh\necho answered; echo "said of $3 " >&2; echo "  more\t" >&2; exit $(cat "$3")\n')
+    program.chmod(0o755)
+    (tmp_path / "drafts").mkdir()
+    for path in (hierarchy, pairs, answers):
+        path.write_text("0")
+    return domethyme_part.task(str(program), str(hierarchy), str(tmp_path / "drafts"), "PAIRS"), (str(pairs), 1, str(answers))
+
+
+@pytest.mark.parametrize("status", range(10))
+def test_how_a_part_ends(part, status, tmp_path):
+    """With the answers, or with what the program says of PAIRS in lines, or in one if it isn't a refusal; and without a draft."""
+    task, words = part
+    (tmp_path / "000000.pairs").write_text(str(status))
+    found, fault = domethyme_part.answer(task, *words), f"{task['program']} ended with status {status}: said of PAIRS more"
+    assert found == ((0, None, 9) if status == 0 else (status, "said of PAIRS\n  more", 0) if 3 <= status <= 8 else (1, fault, 0))
+    assert ((tmp_path / "answers").read_text(), os.listdir(task["drafts"])) == ("answered\n" if status == 0 else "0", [])
+
+
+def test_files_of_a_part_that_are_others(part, tmp_path):
+    """They have other bytes, whatever their times and sizes are, or aren't there, or can't be run. What may come is waited for."""
+    task, words = part
+    hierarchy, other = tmp_path / "hierarchy", tmp_path / "other"
+    before = hierarchy.stat().st_mtime_ns
+    for later, path in ((1, hierarchy), (0, other)):
+        path.write_text("1")
+        os.utime(path, ns=(before, before + later))
+        os.replace(path, hierarchy)
+        assert domethyme_part.answer(task, *words) == (1, f"{hierarchy} isn't the file that the run began with", 0)
+    hierarchy.write_text("0")
+    with mock.patch.object(domethyme_part, "WAIT_SECONDS", 0):
+        assert domethyme_part.answer(task, words[0], 2, words[2]) == (1, f"{words[0]} isn't there with its 2 bytes", 0)
+        told = asyncio.run(domethyme_part.check_machine({**task, "drafts": str(other)}))
+        assert told == f"{other} isn't there: the folder of OUT has to be one that all machines share"
+    with mock.patch.object(domethyme_part.time, "sleep", lambda _seconds: (tmp_path / "late").write_text("12")):
+        assert domethyme_part.has_come(str(tmp_path / "late"), 2)
+    assert asyncio.run(domethyme_part.check_machine(task)) is None
+    (tmp_path / "program").chmod(0o644)
+    assert domethyme_part.file_mismatch(task) == f"{task['program']} is no program that can be run"
+    hierarchy.unlink()
+    assert domethyme_part.file_mismatch(task) == f"{hierarchy}: No such file or directory"
+
+
+def test_a_run_after_one_that_was_ended(part):
+    task, words = part
+    for error in (KeyboardInterrupt, None):
+        with contextlib.suppress(KeyboardInterrupt), route_many.threads(task, 1) as workers:
+            if error:
+                raise error
+            assert workers.result(workers.begin(*words)) == (0, None, 9)
 
 
 class TwoCallsTests(RouteManyCase):

@@ -75,7 +75,7 @@ CHANGING = {
     "route": {**LINES, "alternatives": ["true", "2", "9"], "continue_straight": ["true"], "bearings": ["45,0;"]},
     "nearest": {"number": ["7"]}, "trip": {**LINES, "bearings": ["45,0;0,9"]}, "match": {**LINES, "radiuses": ["0.5;", "15;20"]},
     "table": {"annotations": ["distance", "weight,distance"], "sources": ["0", "1;0;0"], "destinations": ["1;1", "0;1"]},
-    "isochrone": {"contours_minutes": ["1", "0.5,2,30,600"], "bearings": ["45,0"]},
+    "isochrone": {"contours_minutes": ["1", "0.5,2,30,600"], "contours_meters": ["700,90000"], "bearings": ["45,0"]},
 }
 
 
@@ -96,12 +96,14 @@ def cost_by_the_page(size, service, places, query):
     sums = 4 * rows * columns * ("distance" in known["annotations"])
     if service == "match":
         sums = sum(16 * min(float(each or 5), 16) ** 2 for each in (known["radiuses"] or ";" * (count - 1)).split(";"))
-    radiuses = [float(each) * 130 / 60 / 111.195 / size.degrees for each in known["contours_minutes"].split(",") if each]
+    metres = [float(each) * 130_000 / 60 for each in known["contours_minutes"].split(",") if each]
+    metres += map(float, filter(None, known["contours_meters"].split(",")))
+    shares = [2 * math.pi * (each / 111_195 / size.degrees) ** 2 for each in metres]
     numbers = {
         "P": count, "B": sum(map(bool, known["bearings"].split(";"))), "K": int(known["number"] or 1), "N": size.nodes,
         "G": times * len(ways), "W": times * nodes, "V": nodes * size.points * each_point, "A": others, "U": min(1, others),
         "M": 2 * rows, "L": min(size.links, 20 * math.sqrt(size.nodes) * columns), "Z": len(sides[0]) * len(sides[1]), "S": sums,
-        "C": len(radiuses), "R": sum(min(150_000, size.nodes * min(1, 2 * math.pi * each**2)) for each in radiuses)
+        "C": len(shares), "R": sum(min(150_000, size.nodes * min(1, share)) for share in shares)
     }
     text = re.search(rf"(?m)^\|`/{service}`\|`(.*)`\|$", PAGE)[1]
     return eval(re.sub(r"(?<=[\w)]) (?=[\w(])", "*", text.replace(",", "")), numbers)
@@ -118,12 +120,6 @@ def test_costs_are_those_of_the_page(service):
                 query[name] += ";" * (len(places) - 1 - query[name].count(";"))
             found = cost(service, len(places), "&".join("=".join(each) for each in query.items()), places, size)
             assert found == pytest.approx(cost_by_the_page(size, service, places, query), rel=1e-3), (size, places, query)
-
-
-@pytest.mark.parametrize("minutes", [0.5, 2, 5, 30])
-def test_contours_by_metres_cost_what_is_driven_in_minutes(minutes):
-    metres = minutes * 130_000 / 60
-    assert cost("isochrone", 1, f"contours_meters={metres:.0f}") == pytest.approx(cost("isochrone", 1, f"contours_minutes={minutes}"), rel=0.01)
 
 
 @drawn(60)
@@ -409,24 +405,6 @@ def test_a_batch_frees_its_slot_between_blocks():
     assert (case.served, case.refused) == ([other, batch, second], [])
 
 
-def test_standard_error_that_nobody_reads():
-    """Lines are lost and counted, and the next one that is written begins a line of its own."""
-    reads, writes = os.pipe()
-    os.set_blocking(writes, False)
-    lost, writer = [], LossyWriter(lambda data: os.write(writes, data))
-    writer.on_lost = lost.append
-    line = b"x" * 99 + b"\n"
-    for _ in range(2000):
-        assert writer.write(line) == 100
-    kept = os.read(reads, 1 << 20)
-    assert len(kept) // 100 + sum(lost) == 2000 and sum(lost) > 1000
-    writer.write(b"y\n")
-    assert os.read(reads, 100).strip() == b"y"
-    os.close(reads)
-    writer.write(line)  # (a broken pipe is no error)
-    os.close(writes)
-
-
 def test_a_line_that_was_cut():
     """Only its end is lost, and the next one that is taken begins a line of its own. Each line is counted once."""
     got, lost, room = [], [], iter([0, 3, 0, 0, 100, 100])
@@ -452,9 +430,9 @@ def test_where_lines_go(tmp_path, kind):
     if kind == "file":
         ends = [os.open(tmp_path / "log", os.O_RDWR | os.O_CREAT), os.open(tmp_path / "log", os.O_WRONLY)]
     found = subprocess.run([sys.executable, "-c", script], stdout=subprocess.PIPE, stderr=ends[1], check=True, timeout=SECONDS)
-    lines = os.read(ends[0], 1 << 20).splitlines()
-    assert {*lines[:99]} == {b"\\udcff \xc3\xa9"}
-    assert (int(found.stdout) > 10_000, len(lines) == 20_000) == (kind != "file", kind == "file")
+    text = os.read(ends[0], 1 << 20)
+    assert {*text.splitlines()[:99]} == {b"\\udcff \xc3\xa9"}
+    assert (text.count(b"\n") + int(found.stdout), int(found.stdout) > 10_000) == (20_000, kind != "file")
     for end in ends:
         os.close(end)
 

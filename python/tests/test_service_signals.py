@@ -152,21 +152,6 @@ command.main()
             process.send_signal(number)
             self.wait_for(lambda: not is_running(check))
 
-    def test_nobody_reads_what_systemd_is_told(self):
-        """The service starts and ends though systemd's notification socket is full."""
-        with socket.socket(socket.AF_UNIX, socket.SOCK_DGRAM) as full:
-            full.bind(str(self.folder / "notify"))
-            with socket.socket(socket.AF_UNIX, socket.SOCK_DGRAM) as filler:
-                filler.setblocking(False)
-                with contextlib.suppress(BlockingIOError):
-                    while True:
-                        filler.sendto(b"x", str(self.folder / "notify"))
-            with mock.patch.dict(os.environ, NOTIFY_SOCKET=str(self.folder / "notify")):
-                process = self.serve()
-            self.assertEqual(self.ask("/health")[0], 200)
-            process.send_signal(signal.SIGTERM)
-            self.assertEqual(process.wait(SECONDS), 0)
-
     def test_sigterm_answers_accepted_requests(self):
         """Accepted requests are answered; a connection in the backlog is reset or refused."""
         self.command = PATIENT
@@ -267,9 +252,13 @@ def test_settings_of_gunicorn(monkeypatch):
     """Those of docs/OPERATING.md, some of which the environment changes."""
     for more, seconds in (("", 30), ("--graceful-timeout 9", 9)):
         monkeypatch.setenv("GUNICORN_CMD_ARGS", f"--timeout 5 --worker-class gthread --workers 9 --bind :1 --backlog 7 {more}")
-        cfg = Application(DatasetPaths("v.rch", None), None, ["fd://9"], 4, True, False).cfg
+        monkeypatch.setenv("NOTIFY_SOCKET", "/notify")
+        app = Application(DatasetPaths("v.rch", None), None, ["fd://9"], 4, True, False)
+        cfg = app.cfg
         assert (cfg.timeout, cfg.workers, cfg.bind, cfg.backlog, cfg.graceful_timeout) == (30, 5, ["fd://9"], 7, seconds)
         assert cfg.worker_class is Worker and cfg.preload_app
+        # (where gunicorn would wait for a reader)
+        assert (app.notify_socket, os.environ.get("NOTIFY_SOCKET")) == ("/notify", None)
 
 
 @pytest.fixture
@@ -326,9 +315,11 @@ def test_how_workers_end(arbiter, graceful, number):
 
 @pytest.mark.parametrize("name", ["{}/notify", "@{}/notify"])
 def test_systemd_is_told(tmp_path, name):
+    """Also if nobody reads that, so often that its socket is full."""
     with socket.socket(socket.AF_UNIX, socket.SOCK_DGRAM) as stream:
         stream.bind(name.format(tmp_path).replace("@", "\0"))
-        gunicorn_app.notify_systemd(name.format(tmp_path))
+        for _ in range(1000):
+            gunicorn_app.notify_systemd(name.format(tmp_path))
         assert stream.recv(100, socket.MSG_DONTWAIT) == b"READY=1"
 
 
