@@ -75,7 +75,7 @@ CHANGING = {
     "route": {**LINES, "alternatives": ["true", "2", "9"], "continue_straight": ["true"], "bearings": ["45,0;"]},
     "nearest": {"number": ["7"]}, "trip": {**LINES, "bearings": ["45,0;0,9"]}, "match": {**LINES, "radiuses": ["0.5;", "15;20"]},
     "table": {"annotations": ["distance", "weight,distance"], "sources": ["0", "1;0;0"], "destinations": ["1;1", "0;1"]},
-    "isochrone": {"contours_minutes": ["1", "0.5,2,30,600"], "contours_meters": ["700,90000"], "bearings": ["45,0"]},
+    "isochrone": {"contours_minutes": ["1", "0.5,2,30,600"], "contours_meters": ["700,9000"], "bearings": ["45,0"]},
 }
 
 
