@@ -491,6 +491,15 @@ class ArbiterTests(ServiceCase):
                 touches = [0]
                 late.engine.roads.on_looked = lambda _count: os.utime(path, ns=(1, touches.pop())) if touches else None
                 self.assertEqual(ask(late, each), right[each])
+        for size, message in ((0, "an error inside"), (1, "a file of the service can't be read: its log says why")):
+            def fail(*_nodes, size=size):
+                path.write_bytes(whole + bytes(size))
+                raise ValueError("secret")
+
+            with self.assertLogs("domethyme_service", "ERROR") as logged, mock.patch.object(service.queries, "length", fail):
+                found = ask(service, "/nodes/length?from=1&to=2")
+            self.assertEqual(found, (500, {"code": "InternalError", "message": message}))
+            self.assertEqual([word in logged.output[0] for word in (str(path), "secret")], [size > 0, size == 0])
 
     def test_processes_that_the_kernel_refuses(self):
         """At a reload, and for a worker that has ended: the old ones stay, and it is tried again."""

@@ -5,13 +5,14 @@ import os
 import re
 import socket
 import subprocess
+import sys
 import time
 
 from unittest import mock
 
 import pytest
 from service_case import ServiceCase, workers_of
-from tool_case import ROOT, SECONDS, TOOLS
+from tool_case import PYTHON, ROOT, SECONDS, TOOLS
 
 from domethyme import find_program
 from domethyme_service import command
@@ -69,6 +70,7 @@ class NodesTests(ServiceCase):
         wanted = {"status": "ok", "nodes": self.graph.nodes, "links": self.links(), "towards": False, "alternatives": 0}
         self.assertEqual(self.ask("/health"), (200, wanted))
         self.ask("/nodes/length?from=1&to=2")
+        size = int(self.headers["Content-Length"])
         counted = 'requests_total{endpoint="/nodes/length",status="200"}'
         self.wait_for(lambda: counted in self.ask("/metrics")[1])  # (an answer is counted once it has gone)
         self.assertEqual(self.value(counted), 1)
@@ -90,7 +92,8 @@ class NodesTests(ServiceCase):
         self.wait_for(lambda: sum('"/nodes/length"' in line for line in self.said) == 2)
         good, refused = (json.loads(line) for line in self.said if '"/nodes/length"' in line)
         self.assertEqual(set(good), {"time", "method", "endpoint", "status", "bytes", "milliseconds"})
-        self.assertGreater(good["bytes"], 20)
+        self.assertEqual(good["bytes"], size)
+        self.assertIn(f"at http://127.0.0.1:{self.port}/, {self.graph.nodes} nodes\n", "".join(self.said))
         self.assertEqual((set(refused) - set(good), refused["error"], refused["status"]), ({"error"}, "InvalidValue", 400))
         self.assertLess(abs(datetime.datetime.fromisoformat(good["time"]).timestamp() - time.time()), 1000)
 
@@ -143,6 +146,9 @@ class CommandTests(ServiceCase):
         words[1] = self.folder / "none"
         self.assertIn("none: No such file", self.run_program(words, status=1).stderr)
         self.run_program([*words, "--workers", "0"], status=2)
+        words[:1] = [sys.executable, "-m", "domethyme_service"]
+        said = self.run_program(words, status=1, environment={"PYTHONPATH": str(PYTHON)}).stderr
+        self.assertEqual(said, f"domethyme-serve: {self.folder}/none: No such file or directory\n")
 
 
 # (some by their old names)

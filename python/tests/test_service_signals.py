@@ -2,6 +2,7 @@
 import contextlib
 import http.client
 import json
+import logging
 import os
 import pathlib
 import signal
@@ -79,10 +80,12 @@ class SignalTests(ServiceCase):
         old = self.ask(PATH)[1]["length"]
         clients = self.clients()
         for factor in (2, 3):
+            opened = self.value("last_reload_timestamp_seconds")
             self.prepare(factor)
             process.send_signal(signal.SIGHUP)
             self.wait_for(lambda: sum("reloaded" in line for line in self.said) == factor - 1)
             self.assertEqual({self.ask(PATH)[1]["length"] for _ in range(20)}, {factor * old})
+            self.assertGreater(self.value("last_reload_timestamp_seconds"), opened)
         for lengths in self.finish(clients):
             self.assertLessEqual(set(lengths), {old, 2 * old, 3 * old})
         self.wait_for(lambda: self.value("reloads_total") == 2)
@@ -258,7 +261,7 @@ def test_settings_of_gunicorn(monkeypatch):
         assert (cfg.timeout, cfg.workers, cfg.bind, cfg.backlog, cfg.graceful_timeout) == (30, 5, ["fd://9"], 7, seconds)
         assert cfg.worker_class is Worker and cfg.preload_app
         # (where gunicorn would wait for a reader)
-        assert (app.notify_socket, os.environ.get("NOTIFY_SOCKET")) == ("/notify", None)
+        assert (app.notify_socket, os.environ.get("NOTIFY_SOCKET"), app.slots.workers) == ("/notify", None, 4)
 
 
 @pytest.fixture
@@ -311,6 +314,13 @@ def test_how_workers_end(arbiter, graceful, number):
         child_exit(arbiter, worker)
         assert (worker.row.process, worker.row.workers, worker.row.requests_waiting) == (0, 0, 0)
     assert arbiter.app.metrics.own.worker_restarts_total == 1
+
+
+@pytest.mark.parametrize("number", [signal.SIGTERM, signal.SIGKILL])
+def test_lines_of_gunicorn(number):
+    """It warns of workers that have ended, though it has told them to end."""
+    record = logging.makeLogRecord({"msg": "Worker with pid %s was terminated due to signal %s", "args": (1, number)})
+    assert gunicorn_app.is_no_end_of_worker(record) == (number != signal.SIGTERM)
 
 
 @pytest.mark.parametrize("name", ["{}/notify", "@{}/notify"])
