@@ -180,7 +180,7 @@ def test_a_meter_ends_what_costs_too_much():
 
 def test_slots_are_shared_fairly():
     """Each set of slots stands for a process: a client has half of the long ones, and a public one is answered by half of the workers."""
-    found, other = Slots(8), Slots(10)
+    found, other = Slots(8), Slots(11)
 
     def in_process(client, is_long, slots_of=found):
         """Whether a process gets its slots, which it keeps until the test ends."""

@@ -270,22 +270,27 @@ def arbiter():
     found = Arbiter.__new__(Arbiter)
     found.app, found.wakeup, found.SIG_QUEUE = mock.Mock(metrics=SharedMetrics(3)), mock.Mock(), []
     found.WORKERS = {number: Worker.__new__(Worker) for number in (1 << 23, 2 << 23)}
+    found._num_workers, found.app.generation, found._last_logged_active_worker_count = 2, 0, 2
     for worker, row in zip(found.WORKERS.values(), found.app.metrics.rows[1:]):
-        worker.row, worker.pid = row, 0
+        worker.row, worker.pid, worker.age = row, 0, 1
         row.process = row.workers = row.requests_waiting = 3
     return found
 
 
 @pytest.mark.parametrize("report, says", [(b"", "the process that opens the files has ended"), (b"v.rch: \xff", "v.rch: \ufffd")])
 def test_a_trial_that_has_ended(arbiter, caplog, report, says):
-    """Also where it was killed: the log says why, and the metrics do, and the files stay."""
-    reads, writes = os.pipe()
+    """Also if it was killed the log and the metrics say why, and the files stay. A signal that has come meanwhile begins another."""
+    arbiter.trial, writes = os.pipe()
+    arbiter.start_trial, own = mock.Mock(), arbiter.app.metrics.own
+    arbiter.handle_hup()
+    arbiter.manage_workers()
+    assert not arbiter.start_trial.called
     os.write(writes, report)
     os.close(writes)
-    arbiter.end_trial(reads)
-    own = arbiter.app.metrics.own
+    arbiter.manage_workers()
+    arbiter.start_trial.assert_called_once_with()
     assert (own.last_reload_failed, own.reload_failures_total, own.last_reload_timestamp_seconds) == (1, 1, 0)
-    assert (caplog.messages, arbiter.app.load.called, arbiter.trial) == ([f"reload refused: {says}"], False, None)
+    assert (caplog.messages[-1], arbiter.app.load.called, arbiter.trial) == (f"reload refused: {says}", False, None)
 
 
 def test_signals_while_files_are_opened(arbiter):
