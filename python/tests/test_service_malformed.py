@@ -339,8 +339,11 @@ def test_a_short_body_is_waited_for() -> None:
         assert classify_head(b"POST / HTTP/1.1\r\n%bContent-Length: %d\r\n\r\n" % (more, length)) is HeadState.WHOLE
 
 
+CROSS = "Sec-Fetch-Site: cross-site\r\n"
+
+
 def test_requests_at_the_limits_and_fields_of_answers(tmp_path: pathlib.Path) -> None:
-    """What is just allowed is answered, and one byte or one option more isn't. HEAD has the fields of GET."""
+    """What is just allowed is answered, and one byte or option more isn't. Any page may lead to `/`. HEAD has the fields of GET."""
     write_network(one_road((0.0, 0.0), (12.0, 0.0), (12.0, 16.0)), tmp_path / "v", "--attribution", "© the town")
     case = InProcess(tmp_path)
 
@@ -354,6 +357,9 @@ def test_requests_at_the_limits_and_fields_of_answers(tmp_path: pathlib.Path) ->
         ("/health", f"{host}{16 * fill}X-B: {'b' * left}\r\n", 200), ("/health", f"{host}{16 * fill}X-B: {'b' * left}b\r\n", 400),
         ("/health?" + "&".join(map(str, range(50))), host, 200), ("/health?" + "&".join(map(str, range(51))), host, 400),
         ("/health", f"{host}Content-Length: 00\r\n", 200), ("http://x:1/health?a", "Host: other.example\r\n", 200),
+        ("/", f"{host}{CROSS}", 403), ("/", f"{host}{CROSS}Sec-Fetch-Mode: navigate\r\n", 200),
+        ("/health", f"{host}{CROSS}Sec-Fetch-Mode: navigate\r\n", 403), ("/health", f"{host}Origin: http://x\r\n", 200),
+        ("/health", f"{host}Origin: http://other\r\n", 403),
         ("/nodes/length?from=%31&to=2", host, 200), ("/nodes/length?&from=1&&to=2&", host, 200),
     ]:
         assert get(target, fields).status == status, (target[:99], fields[:99])

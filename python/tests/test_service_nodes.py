@@ -11,7 +11,7 @@ import time
 from unittest import mock
 
 import pytest
-from service_case import ServiceCase, workers_of
+from service_case import ServiceCase
 from tool_case import PYTHON, ROOT, SECONDS, TOOLS
 
 from domethyme import find_program
@@ -124,21 +124,6 @@ class CommandTests(ServiceCase):
         self.assertEqual(ended.returncode, 1)
         self.assertIn("won't listen at 0.0.0.0: other machines ask through nginx", ended.stderr)
 
-    def test_options_that_went(self):
-        """Removed options name their replacement, and renamed ones are accepted by both names."""
-        for words, name in ((["--connections", "9"], "worker_connections"), (["--client-connections", "9"], "limit_conn"),
-                            (["--head-seconds", "9"], "client_header_timeout")):
-            self.assertIn(f"{words[0]} is no longer an option: use {name}", self.refused(*words, status=2))
-        for old, new in command.RENAMED_OPTIONS.items():
-            said = self.refused("--host", "0.0.0.0", old, "9", status=1)
-            self.assertIn(f"domethyme-serve: {old} is now {new}; the old word goes with the next version\n", said)
-        self.assertIn("an origin is SCHEME://HOST", self.refused("--cors", "example.org", status=2))
-
-    def test_at_least_four_workers(self):
-        process = self.serve("--workers", "2")
-        self.assertIn("domethyme-serve: --workers 2: takes 4, the least, since a long request holds one\n", self.said)
-        self.wait_for(lambda: len(workers_of(process)) == 4)
-
     def test_what_can_not_start(self):
         self.write("v.rch", "no hierarchy")
         words = [TOOLS / "domethyme-serve", self.folder / "v.rch", "--port", "0"]
@@ -152,21 +137,26 @@ class CommandTests(ServiceCase):
 
 
 # (some by their old names)
-WORDS = "--network net --checked g.gr --towards --exclude toll=a=b.rch --exclude ferry=c.rch --default-radius 7 --table-cells 9 " \
-    "--profile car --profile van --allowed-host A.example --allowed-host b --cors https://c.example:8443 --fronts 5 --log-places"
+WORDS = "--network net --checked g.gr --towards --exclude toll=a=b.rch --exclude ferry=c.rch --within 6 --default-radius 7 --fronts 5 " \
+    "--table-cells 9 --profile car --profile van --allowed-host A.example --allowed-host b --cors https://c.example:8443 --log-places"
 EXCLUDED = {frozenset({"toll"}): "a=b.rch", frozenset({"ferry"}): "c.rch"}
+RENAMED = ["checked is now --verify", "within is now --radius", "default-radius is now --radius", "fronts is now --workers",
+           "table-cells is now --max-table-cells"]
 
 
-@pytest.mark.parametrize("words, paths, options, more", [
-    ("--compare-all", DatasetPaths("a.rch", None, compare_all=True),
-     Options(AccessPolicy(frozenset(), "none"), 1000, 1_000_000, []), (4, True, False)),
+@pytest.mark.parametrize("words, paths, options, more, says", [
+    ("--compare-all --workers 2", DatasetPaths("a.rch", None, compare_all=True),
+     Options(AccessPolicy(frozenset(), "none"), 1000, 1_000_000, []), (4, True, False),
+     ["domethyme-serve: --workers 2: takes 4, the least, since a long request holds one"]),
     (WORDS, DatasetPaths("a.rch", "net", "g.gr", find_program(), False, True, EXCLUDED),
-     Options(AccessPolicy(frozenset({"a.example", "b"}), "https://c.example:8443"), 7, 9, ["car", "van"]), (5, True, True)),
+     Options(AccessPolicy(frozenset({"a.example", "b"}), "https://c.example:8443"), 7, 9, ["car", "van"]), (5, True, True),
+     [f"domethyme-serve: --{each}; the old word goes with the next version" for each in RENAMED]),
 ], ids=["one", "others"])
-def test_what_the_options_start(words, paths, options, more):
+def test_what_the_options_start(words, paths, options, more, says, capsys):
     with mock.patch.multiple(command, Application=mock.DEFAULT, open_sockets=lambda _args: (["fd://9"], True)) as patched:
         command.main(["a.rch", *words.split()])
     patched["Application"].assert_called_once_with(paths, options, ["fd://9"], *more)
+    assert sorted(capsys.readouterr().err.splitlines()) == sorted(says)
 
 
 @pytest.mark.parametrize("option, low, high", [
@@ -181,10 +171,17 @@ def test_numbers_of_options(option, low, high):
             parse(["a.rch", f"{option}={text}"])
 
 
-@pytest.mark.parametrize("words", ["--exclude toll=a --exclude toll=b", "--cors a://b/", "--cors https://", "--cors a://b?c"])
-def test_options_that_are_refused(words):
+@pytest.mark.parametrize("words, says", [
+    ("--exclude toll=a --exclude toll=b", "the same classes twice"), ("--cors example.org", "an origin is SCHEME://HOST"),
+    ("--cors a://b/", "an origin is"), ("--cors https://", "an origin is"), ("--cors a://b?c", "an origin is"),
+    ("--connections 9", "--connections is no longer an option: use worker_connections"),
+    ("--client-connections 9", "--client-connections is no longer an option: use limit_conn"),
+    ("--head-seconds 9", "--head-seconds is no longer an option: use client_header_timeout"),
+])
+def test_options_that_are_refused(words, says, capsys):
     with pytest.raises(SystemExit, match="2"):
         command.main(["a.rch", *words.split()])
+    assert says in capsys.readouterr().err
 
 
 def test_sockets(tmp_path, monkeypatch):
