@@ -137,8 +137,8 @@ class CommandTests(ServiceCase):
 
 
 # (some by their old names)
-WORDS = "--network net --checked g.gr --towards --exclude toll=a=b.rch --exclude ferry=c.rch --within 6 --default-radius 7 --fronts 5 " \
-    "--table-cells 9 --profile car --profile van --allowed-host A.example --allowed-host b --cors https://c.example:8443 --log-places"
+WORDS = "--network net --checked g.gr --towards --exclude toll=a=b.rch --exclude ferry=c.rch --within 6 --default-radius 7 --fronts 5 "
+WORDS += "--table-cells 9 --profile car --profile van --allowed-host A.org --allowed-host b --cors https://c.org:8443 --log-places"
 EXCLUDED = {frozenset({"toll"}): "a=b.rch", frozenset({"ferry"}): "c.rch"}
 RENAMED = ["checked is now --verify", "within is now --radius", "default-radius is now --radius", "fronts is now --workers",
            "table-cells is now --max-table-cells"]
@@ -149,7 +149,7 @@ RENAMED = ["checked is now --verify", "within is now --radius", "default-radius 
      Options(AccessPolicy(frozenset(), "none"), 1000, 1_000_000, []), (4, True, False),
      ["domethyme-serve: --workers 2: takes 4, the least, since a long request holds one"]),
     (WORDS, DatasetPaths("a.rch", "net", "g.gr", find_program(), False, True, EXCLUDED),
-     Options(AccessPolicy(frozenset({"a.example", "b"}), "https://c.example:8443"), 7, 9, ["car", "van"]), (5, True, True),
+     Options(AccessPolicy(frozenset({"a.org", "b"}), "https://c.org:8443"), 7, 9, ["car", "van"]), (5, True, True),
      [f"domethyme-serve: --{each}; the old word goes with the next version" for each in RENAMED]),
 ], ids=["one", "others"])
 def test_what_the_options_start(words, paths, options, more, says, capsys):
@@ -190,10 +190,12 @@ def test_sockets(tmp_path, monkeypatch):
     path = tmp_path / "serve.sock"
     with socket.socket(socket.AF_UNIX) as first, socket.socket(socket.AF_UNIX) as asking:
         first.bind(str(path))
-        monkeypatch.setattr(command.systemd, "SD_LISTEN_FDS_START", first.fileno())
-        for count, has_probe in ((1, False), (2, True)):  # (the socket and the one that is open next)
+        monkeypatch.setattr(command.systemd, "SD_LISTEN_FDS_START", 196)
+        for count, has_probe in ((1, False), (2, True)):
+            os.dup2(first.fileno(), 195 + count)
             monkeypatch.setattr(command.systemd, "listen_fds", lambda count=count, **_words: count)
             assert command.open_sockets(None) == ([], has_probe)
+        os.closerange(196, 198)
         first.listen(0)
         asking.connect(str(path))  # (as many as wait, so that another one is told to come again)
         with pytest.raises(StartupError, match="another service does"):

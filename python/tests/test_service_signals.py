@@ -279,7 +279,7 @@ def arbiter():
 
 @pytest.mark.parametrize("report, says", [(b"", "the process that opens the files has ended"), (b"v.rch: \xff", "v.rch: \ufffd")])
 def test_a_trial_that_has_ended(arbiter, caplog, report, says):
-    """Also if it was killed the log and the metrics say why, and the files stay. A signal that has come meanwhile begins another."""
+    """Also if it was killed the log and the metrics say why, and the files stay. A signal that came meanwhile begins another."""
     arbiter.trial, writes = os.pipe()
     arbiter.start_trial, own = mock.Mock(), arbiter.app.metrics.own
     arbiter.handle_hup()
