@@ -20,6 +20,7 @@ import numpy as np
 import pytest
 from dearest import Climber
 from draws import drawn
+from gunicorn.config import Config
 from hypothesis import given
 from hypothesis import strategies as st
 from nginx_case import NginxCase
@@ -354,6 +355,17 @@ def test_what_waits_for_the_same_is_answered_first():
         assert (case.worker.queue, case.served) == ([first, others[0]], [*others[1:]])
         case.worker.refuse(case.connection(is_long=False))
     assert (case.worker.row.long_requests_refused_total, case.messages) == (0, ["too many requests at once"])
+
+
+@pytest.mark.parametrize("is_probe, owner", [(False, A), (True, Client())])
+def test_whose_a_request_is_and_how_long_it_waits(is_probe, owner):
+    """That of the client that nginx names, but what asks whether the service is alive; and 5 seconds from when it was read."""
+    case, (client, other) = Waiting(0.1), socket.socketpair()
+    case.worker.cfg, case.worker.is_probe, case.worker.slots.is_taken, case.now = Config(), is_probe, True, 7.0
+    with case.clock(), contextlib.closing(client), contextlib.closing(other):
+        other.sendall(b"GET /health HTTP/1.1\r\nX-Real-IP: 203.0.113.9\r\n\r\n")
+        case.worker.read_request(worker.Connection(client, "", 1.0), worker.HeadState.WHOLE)
+    assert [(each.owner, each.deadline, each.is_long) for each in case.worker.queue] == [(owner, 12.0, False)]
 
 
 def test_a_head_that_comes_too_late():

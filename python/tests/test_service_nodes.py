@@ -137,8 +137,8 @@ class CommandTests(ServiceCase):
 
 
 # (some by their old names)
-WORDS = "--network net --checked g.gr --towards --exclude toll=a=b.rch --exclude ferry=c.rch --within 6 --default-radius 7 --fronts 5 "
-WORDS += "--table-cells 9 --profile car --profile van --allowed-host A.org --allowed-host b --cors https://c.org:8443 --log-places"
+WORDS = "--network net --checked g.gr --towards --exclude toll=a=b.rch --exclude ferry=c.rch --within 6 --default-radius 7 "
+WORDS += "--fronts 5 --table-cells 9 --profile car --profile van --allowed-host A.org --allowed-host b --cors a://b:80 --log-places"
 EXCLUDED = {frozenset({"toll"}): "a=b.rch", frozenset({"ferry"}): "c.rch"}
 RENAMED = ["checked is now --verify", "within is now --radius", "default-radius is now --radius", "fronts is now --workers",
            "table-cells is now --max-table-cells"]
@@ -149,7 +149,7 @@ RENAMED = ["checked is now --verify", "within is now --radius", "default-radius 
      Options(AccessPolicy(frozenset(), "none"), 1000, 1_000_000, []), (4, True, False),
      ["domethyme-serve: --workers 2: takes 4, the least, since a long request holds one"]),
     (WORDS, DatasetPaths("a.rch", "net", "g.gr", find_program(), False, True, EXCLUDED),
-     Options(AccessPolicy(frozenset({"a.org", "b"}), "https://c.org:8443"), 7, 9, ["car", "van"]), (5, True, True),
+     Options(AccessPolicy(frozenset({"a.org", "b"}), "a://b:80"), 7, 9, ["car", "van"]), (5, True, True),
      [f"domethyme-serve: --{each}; the old word goes with the next version" for each in RENAMED]),
 ], ids=["one", "others"])
 def test_what_the_options_start(words, paths, options, more, says, capsys):
