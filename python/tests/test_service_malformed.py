@@ -359,7 +359,7 @@ def test_requests_at_the_limits_and_fields_of_answers(tmp_path: pathlib.Path) ->
         ("/health", f"{host}Content-Length: 00\r\n", 200), ("http://x:1/health?a", "Host: other.example\r\n", 200),
         ("/", f"{host}{CROSS}", 403), ("/", f"{host}{CROSS}Sec-Fetch-Mode: navigate\r\n", 200),
         ("/health", f"{host}{CROSS}Sec-Fetch-Mode: navigate\r\n", 403), ("/health", f"{host}Origin: http://x\r\n", 200),
-        ("/health", f"{host}Origin: http://other\r\n", 403),
+        ("/health", f"{host}Origin: http://other\r\n", 403), ("/health", "Host: 10.0.0.1\r\nX-Local-Address: 10.0.0.1\r\n", 421),
         ("/nodes/length?from=%31&to=2", host, 200), ("/nodes/length?&from=1&&to=2&", host, 200),
     ]:
         assert get(target, fields).status == status, (target[:99], fields[:99])
