@@ -15,6 +15,7 @@ from model.network import Arc, Network, Node
 from tool_case import ToolCase
 
 from domethyme.network import grid
+from domethyme.network.indexes import edge_grid, edge_segments, node_grid
 from domethyme.network.snapping import RoadIndex
 from domethyme.network.sphere import nearest_on_segments
 from domethyme_service.tiles import Tiles
@@ -40,6 +41,56 @@ def test_places_between_short_roads(tmp_path, middle, wide, count):
     for place, spot in zip(places, roads.nearest_within(places, [math.inf] * len(places)), strict=True):
         edges = [point.edge for _, point in itertools.islice(net.by_distance(place, None), 2)]
         assert [each.edge for each in roads.nearest(place, 2)] == edges and spot.edge == edges[0], place
+
+
+FEW = {"CHUNK_SIZE": 3, "MAX_CANDIDATES": 8, "BATCH_SIZE": 7}
+
+
+def ahead(place, turn, degrees):
+    """The place so many degrees of a great circle from another one, in units."""
+    lat, far = np.radians(place[1]), np.radians(degrees)
+    north = np.arcsin(np.clip(np.sin(lat) * np.cos(far) + np.cos(lat) * np.sin(far) * np.cos(turn), -1, 1))
+    east = np.arctan2(np.sin(turn) * np.sin(far) * np.cos(lat), np.cos(far) - np.sin(lat) * np.sin(north))
+    return round(math.degrees(math.remainder(math.radians(place[0]) + east, math.tau)), 7), round(math.degrees(north), 7)
+
+
+@pytest.mark.parametrize("long, wide, count, few", [
+    (0.0024, 0.003, 58, {}), (0.3, 0.5, 16, FEW), (60, 180, 16, FEW), (0, 0.01, 10, FEW), (0, 180, 9, {})
+])
+def test_what_is_within_some_metres(monkeypatch, long, wide, count, few):
+    """Roads of one step in all directions, of as many degrees and as far from some places, or nodes: those within some metres of a
+    place are among the candidates; the nearest are found one by one and together, of equally near ones the first."""
+    draw = random.Random(4)
+    for name, value in few.items():
+        monkeypatch.setattr(grid, name, value)
+
+    def beside(degrees):
+        middle = draw.choice([(9, 47), (180, -17), (30, 89.999), (0, -90), (0, 0)])
+        return ahead(middle, draw.uniform(0, math.tau), degrees * draw.random())
+
+    begins = [beside(wide) for _ in range(150)]
+    begins += begins[:20]
+    lines = [(begin, ahead(begin, draw.uniform(0, math.tau), long)) for begin in begins]
+    lines[-10:] = lines[10:20]
+    units = np.rint(np.array(lines).reshape(-1, 2) * 1e7).astype(np.int32)
+    made = edge_grid(units, *edge_segments(np.arange(len(lines) + 1) * 2)) if long else node_grid(*units[::2].T)
+    spots = [draw.choice([beside(wide), draw.choice(lines)[draw.randrange(2)]]) for _ in range(count)]
+    away = np.array([[sphere.nearest_on_segment(spot, *line)[0] for line in lines] for spot in spots])
+    for spot, far in zip(spots, away):
+        reach = draw.choice([0.1, sorted(far)[draw.randrange(30)]])
+        which, found = made.candidates_of_each([spot, (0, 0), spot], reach)
+        in_cells = made.things_in(made.cells_near(*np.array([spot]).T, np.array([reach])))
+        one_by_one = np.concatenate([[-1], *made.candidates(spot, reach)])
+        for things in (one_by_one, in_cells, *([] if few else [found[which == 2]])):
+            assert {*np.flatnonzero(far <= reach - 0.01)} <= {*things.tolist()}
+    away = away.round(3)
+    away[[0, -1]], away[1:-1, ::3] = np.inf, np.inf
+    order = np.argsort(away, kind="stable")
+    for far, spot, rows in zip(away[1:], spots[1:], order[1:]):
+        count = draw.choice([1, 2, 30])
+        assert made.nearest(spot, count, far.__getitem__) == [(far[row], row) for row in rows[:count] if far[row] < np.inf]
+    nearest, metres = made.nearest_batch(*np.array(spots).T, lambda rows, things: away[rows, things])
+    assert nearest.tolist() == [-1, *order[1:-1, 0], -1] and metres.tolist() == away[range(len(spots)), order[:, 0]].tolist()
 
 
 @drawn(150)
