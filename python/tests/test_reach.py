@@ -2,7 +2,7 @@
 equator, and weighs 1000 there."""
 import numpy as np
 import pytest
-from draws import drawn
+from draws import drawn, run_tool
 from hypothesis import given
 from hypothesis import strategies as st
 from reach_case import Road, lengths, network, prepared, town, town_map
@@ -10,9 +10,11 @@ from shapely.geometry import Point, shape
 
 import domethyme
 from domethyme import library
-from domethyme.network import isochrones
+from domethyme.network import isochrones, net_file
+from domethyme.network.contours import contours
 from domethyme.network.isochrones import features
 from domethyme.network.reach import Reach
+from domethyme.network.snapping import RoadIndex
 
 # A road of two directions, one to the east alone, and roads without weight; a node apart.
 ROW = [(0, 0), (0.001, 0), (0.002, 0), (0.003, 0), (0.004, 0), (0, 0.01)]
@@ -30,7 +32,7 @@ def test_copies_of_a_node_count_once():
     here = (0.001, 0.0)
     nodes = [(0, 0), (*here, "from", 7), (*here, "to", 7), (*here, "no", 7), (*here, "", 8), (0.002, 0)]
     net = network(nodes, [Road(start, end, 1000, None) for start, end in ((0, 2), (1, 5), (3, 5), (4, 5))])
-    reach = Reach(net, lengths(net, {0: 0}), [500, 1500])
+    reach = Reach(net, lengths(net, {0: 0}), [500, 1000])
     assert reach.node_levels(np.arange(6)).tolist() == [0, 1, 1, 1, 2, 2]
     assert reach.roads(1) == [[(0, 0), (0.001, 0)]]  # the copy from which roads lead isn't reached itself
 
@@ -38,6 +40,27 @@ def test_copies_of_a_node_count_once():
 def test_nothing_is_reached():
     reach = Reach(network(ROW, ROADS), np.full(6, -1), [1000])
     assert reach.boxes == [None] and list(reach.roads(0)) == []
+
+
+@pytest.mark.parametrize("off", [0.001, 0.0089, -0.0089])
+def test_a_line_far_from_its_nodes(tmp_path, off):
+    """A line may end up to 1000 m from the nodes of its road."""
+    (tmp_path / "n.csv").write_text("lon,lat\n0,0\n0.0001,0\n")
+    (tmp_path / "a.csv").write_text(f'from,to,weight,WKT\n1,2,1000,"LINESTRING (0 {off}, 0.001 {off})"\n')
+    run_tool("to_network", tmp_path / "n.csv", tmp_path / "a.csv", tmp_path / "net")
+    reach = Reach(net_file.read(f"{tmp_path}/net.net"), np.array([0, -1]), [500])
+    assert reach.roads(0) == [[(0, off), (0.0005, off)]]
+    assert any(part.contains(Point(0.0003, off)) for part in contours(reach)[0].polygons)
+
+
+def test_a_place_at_a_node_from_which_one_road_is_taken():
+    """What is reached begins at the node, though it isn't reached itself."""
+    roads = RoadIndex(network(ROW, ROADS))
+    (point,) = roads.nearest((0.001, 0))
+    for arc, edge in ((1, 0), (0, 0)):
+        some = roads.keep_arcs(point, {arc: roads.arc(arc)})
+        reach = isochrones.reach_of(roads, [some], [500], lambda starts, most: np.full(6, -1))
+        assert reach.roads(0) == ([[(0.0005, 0), (0.001, 0)]] if arc else [])
 
 
 @pytest.mark.parametrize("values, limits", [

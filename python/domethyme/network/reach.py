@@ -352,12 +352,12 @@ class Reach:
         return found.grown(LONG + metres)
 
     def _zone_of_nodes(self, box: Box) -> Zone:
-        """The squares of a box with reached nodes, and with places."""
+        """The squares of a box with reached nodes, and with places, and those in which lines of roads at these may begin."""
         found = Zone.over(box)
         found.add(self._here)
         for nodes in chunks_of(self._reached):
             found.add(self._points_of(nodes))
-        return found
+        return found.grown(FARTHEST_END)
 
     def _box_of(self, edges: Ints, limit: int, known: Box) -> Box:
         """The box of what is reached within a limit of those edges that aren't within a box."""
