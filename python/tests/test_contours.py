@@ -14,6 +14,7 @@ from shapely.geometry import LineString, MultiPolygon, Point, Polygon, box as re
 
 from domethyme.network import contour_shapes, isochrones, net_file
 from domethyme.network.contours import NONE, contours, meshes_of, nearest_levels, nearest_levels_far
+from domethyme.network.geo import multi_geometry
 from domethyme.network.indexes import UNITS
 from domethyme.network.isochrones import Style, features
 from domethyme.network.outlines import outlines
@@ -57,15 +58,15 @@ def misplaced(net, found, reach, limit, contour):
 
 
 def are_nested(found):
-    shapes = [MultiPolygon(contour.polygons) for contour in found]
+    shapes = [MultiPolygon(getattr(contour, "polygons", contour)) for contour in found]
     return all(each.is_valid for each in shapes) and all(outer.covers(inner) for inner, outer in itertools.pairwise(shapes))
 
 
 def check_grids(reach, found):
-    """The step is at most 1/200 of width and height, and no grid has more than 4,000,000 points."""
+    """The step is at most 1/200 of width and height, or half a metre, and no grid has more than 4,000,000 points."""
     for contour in found:
         west, south, east, north = in_plane(reach, contour.polygons).bounds
-        assert contour.step <= min(east - west, north - south) / 200
+        assert contour.step <= max(0.5, min(east - west, north - south) / 200)
     assert all(mesh.points <= 4_000_000 for mesh in meshes_of(reach))
 
 
@@ -104,6 +105,7 @@ def test_limits_that_differ_much(made_roads):
     assert len(meshes) > 2 and [mesh.step for mesh in meshes] == sorted({mesh.step for mesh in meshes})
     drawn = contours(reach)
     assert are_nested(drawn) and drawn[0].step < drawn[1].step < drawn[2].step
+    check_grids(reach, drawn)
     for mesh in meshes[:-1]:
         sides = LineString(np.array(mesh.shown)[[[0, 1], [2, 1], [2, 3], [0, 3], [0, 1]]])
         assert in_plane(reach, drawn[2].polygons).boundary.intersection(sides).length < 0.05 * sides.length
@@ -156,7 +158,8 @@ def test_nearest_levels(radius):
 
 @pytest.mark.parametrize("share", [0.05, 0.4, 0.6, 0.95])
 def test_outlines(share):
-    """Points are on their side of them; between neighbours they pass where the value would be 0; and rings are as RFC 7946 has them."""
+    """Points are on their side of them; between neighbours they pass where the value would be 0; of four points two that aren't
+    neighbours are joined by the sum; and rings are as RFC 7946 has them."""
     draw = np.random.default_rng(7)
     for _ in range(30):
         size = draw.integers(1, 12, 2)
@@ -167,6 +170,11 @@ def test_outlines(share):
         assert MultiPolygon(shapes).is_valid
         rows, columns = np.indices(values.shape)
         assert (is_inside == np.any([vectorized.contains(each, columns, rows) for each in shapes or [Polygon()]], axis=0)).all()
+        fours = values[:-1, :-1], values[:-1, 1:], values[1:, 1:], values[1:, :-1]
+        (one, other, third, last), middles = (each > 0 for each in fours), (columns[:-1, :-1] + 0.5, rows[:-1, :-1] + 0.5)
+        is_saddle = (one == third) & (other == last) & (one != other)
+        are_joined = np.any([vectorized.contains(each, *middles) for each in shapes or [Polygon()]], axis=0)
+        assert (are_joined == (sum(fours) > 0))[is_saddle].all()
         low, high = np.floor(points).astype(int), np.ceil(points).astype(int)
         (low, high), share_of_way = (values[each[:, 1], each[:, 0]] for each in (low, high)), (points - low).sum(axis=1)
         assert np.allclose(low + (high - low) * share_of_way, 0) and (low * high < 0).all()
@@ -199,7 +207,7 @@ def test_generalize(drawn_town, metres):
     """Of the points some are left, and none of a ring that is left lies further from the line than was asked for."""
     reach, drawn = drawn_town
     found = contour_shapes.generalized(drawn, metres)
-    assert contour_shapes.are_nested(found)
+    assert are_nested(found)
     for before, after in zip(drawn, found):
         rings, left = ([set(ring) for part in parts for ring in contour_shapes.rings_of(part)] for parts in (before, after))
         assert sum(map(len, left)) < sum(map(len, rings)) and left
@@ -231,8 +239,8 @@ def hole(west, south, side):
 
 
 @pytest.mark.parametrize("share, inner, outer", [
-    (0, [100, 9, 3], [384, 64, 1]), (0.05, [100, 9], [400, 64]), (0.1, [100], [400, 64]), (0.5, [100], [400]),
-    (1, [100], [400]),
+    (0, [100, 9, 3], [384, 64, 1]), (0.04, [100, 9, 4], [384, 64]), (0.05, [100, 9], [400, 64]), (0.16, [100], [400, 64]),
+    (0.165, [100], [400]), (1, [100], [400]),
 ])
 def test_denoise(share, inner, outer):
     """Parts and holes that are small beside the largest part go. The lesser contour has parts of 100, 9, and 4 with a hole
@@ -241,7 +249,7 @@ def test_denoise(share, inner, outer):
     greater = [square(0, 0, 20, hole(14, 14, 4)), square(15, 15, 1), square(30, 0, 8)]
     found = contour_shapes.denoised([lesser, greater], share)
     assert [sorted((part.area for part in parts), reverse=True) for parts in found] == [inner, outer]
-    assert contour_shapes.are_nested(found)
+    assert are_nested(found)
 
 
 @pytest.mark.parametrize("lesser, greater, areas", [
@@ -251,7 +259,7 @@ def test_denoise(share, inner, outer):
 ])
 def test_a_part_around_one_of_a_lesser_contour_stays(lesser, greater, areas):
     found = contour_shapes.denoised([lesser, greater], 0.5)
-    assert sorted((part.area for part in found[1]), reverse=True) == areas and contour_shapes.are_nested(found)
+    assert sorted((part.area for part in found[1]), reverse=True) == areas and are_nested(found)
 
 
 @pytest.mark.parametrize("change, value", [
@@ -278,7 +286,12 @@ def test_features(made_town):
         "contour": 0.5, "metric": "time", "color": "#0072B2", "opacity": 0.33, "fill": "#0072B2", "fillColor": "#0072B2",
         "fill-opacity": 0.33, "fillOpacity": 0.33,
     }
-    for each in found["features"]:
+    lines, plain = (features(reach, [0.5, 1, 1.5], "time", style) for style in (Style("lines"), Style(denoise=1)))
+    assert list(plain) == ["type", "features"] and not plain["features"][0]["geometry"]["coordinates"][1:]
+    assert found["features"][0]["geometry"]["coordinates"][1:]
+    for each, line in zip(found["features"], lines["features"], strict=True):
+        outlines = [ring for polygon in polygons_of(each["geometry"]) for ring in polygon]
+        assert line["geometry"] == multi_geometry("LineString", outlines)
         assert shape(each["geometry"]).is_valid and each["geometry"]["type"] in ("Polygon", "MultiPolygon")
         for outer, *holes in polygons_of(each["geometry"]):
             assert is_counterclockwise(outer) and not any(map(is_counterclockwise, holes))
@@ -297,32 +310,37 @@ def is_counterclockwise(ring):
 
 def test_nothing_is_reached(made_town):
     net, _ = made_town
-    reach = Reach(net, np.where(np.arange(len(net.node_lon)) == 7, 5000, -1), [1000, 10_000])
+    reach = Reach(net, np.where(np.arange(len(net.node_lon)) == 7, 5000, -1), [1, 2, 3, 4, 4999, 10_000])
     for form in ("polygons", "lines", "roads"):
-        greater, lesser = features(reach, [1, 10], "time", Style(form, generalize=5, denoise=0.5))["features"]
-        assert lesser["geometry"] is None and greater["geometry"] is not None
+        greater, *others = features(reach, range(6), "time", Style(form, generalize=5, denoise=0.5))["features"]
+        assert {each["geometry"] for each in others} == {None} and greater["geometry"] is not None
+        colors = [each["properties"]["color"] for each in (greater, *others)]
+        assert colors == [f"#{isochrones.COLORS[place % 4]}" for place in reversed(range(6))]
 
 
 def test_across_the_180th_meridian():
-    """A cross of roads on the meridian has the contour of one elsewhere, in parts on both sides."""
-    shapes = []
-    for lon in (10.0, 180.0):
-        places = [(lon, 0), (lon + 0.006, 0), (lon - 0.006, 0), (lon, 0.006), (lon, -0.006)]
+    """A cross of roads on the meridian has the contour of one elsewhere, in parts on both sides, with six decimals."""
+    shapes, lons = [], (10.0, 180.0, 179.999)
+    for lon in lons:
+        places = [(lon, 0), (lon + 0.006, 0.002), (lon - 0.006, -0.002), (lon - 0.002, 0.006), (lon + 0.002, -0.006)]
         nodes = [(round((x + 180) % 360 - 180, 7), y) for x, y in places]
         net = network(nodes, [Road(0, end, 6000, 6000) for end in range(1, 5)])
         reach = Reach(net, lengths(net, {0: 0}), [2500, 5000])
         shapes.append([shape(each["geometry"]) for each in features(reach, [1, 2], "time")["features"]])
-    for plain, parted in zip(*shapes):
-        west, east = sorted(parted.geoms, key=lambda part: part.bounds)
-        assert parted.is_valid and west.bounds[0] == -180 and east.bounds[2] == 180
-        whole = MultiPolygon([east, translate(west, 360)]).buffer(1e-9)
-        assert translate(plain, 170).symmetric_difference(whole).area < 1e-3 * plain.area
+    for lon, found in zip(lons[1:], shapes[1:]):
+        for plain, parted in zip(shapes[0], found):
+            west, east = sorted(parted.geoms, key=lambda part: part.bounds)
+            assert parted.is_valid and west.bounds[0] == -180 and east.bounds[2] == 180
+            assert all(value == round(value, DECIMALS) for part in (west, east) for value in np.ravel(part.exterior.coords))
+            whole = MultiPolygon([east, translate(west, 360)]).buffer(1e-9)
+            assert translate(plain, lon - 10).symmetric_difference(whole).area < 1e-3 * plain.area
 
 
 @pytest.mark.parametrize("words, says", [
     (("duration", [], [5]), "aren't a distance: they are durations"),
     (("distance", [5]), "aren't a time: they are distances"), (("weight", [5]), "aren't a time: they are weights"),
     (("duration",), "one of both"), (("duration", [1], [1]), "one of both"),
+    (("distance", [], ["5"]), "have to be numbers above 0"), (("duration", [5, 600.5]), "600.5 minutes are too much: there may be"),
 ])
 def test_limits_that_are_not_known(words, says):
     with pytest.raises(ValueError, match=says):
@@ -357,3 +375,6 @@ def test_a_fixed_town_byte_for_byte():
         arms = [rectangle(-long, -broad, long, broad), rectangle(-broad, -long, broad, long)]
         outline = LineString(feature["geometry"]["coordinates"][0])
         assert outline.hausdorff_distance(arms[0].union(arms[1]).boundary) < 2 / MILLI / 1000
+    (whole,) = contours(Reach(net, lengths(net, {0: 0}), [10_000]))[0].polygons  # (2224 m wide: the allowance is 200 m)
+    arms = LineString([(-0.01, 0), (0.01, 0)]).union(LineString([(0, -0.01), (0, 0.01)]))
+    assert whole.boundary.hausdorff_distance(arms.buffer(200 / MILLI / 1000).boundary) < 10 / MILLI / 1000
