@@ -1,4 +1,5 @@
-"""Tests of the grid of roads: very many near a place, its cells, and roads over the 180th meridian."""
+"""Tests of what is derived of roads: their grid, very many near a place, what maps show, and roads over the 180th meridian."""
+import collections
 import itertools
 import json
 import math
@@ -12,10 +13,11 @@ from hypothesis import given
 from hypothesis import strategies as st
 from model import sphere
 from model.network import Arc, Network, Node
+from reach_case import Road, arrays, network
 from tool_case import ToolCase
 
-from domethyme.network import grid
-from domethyme.network.indexes import edge_grid, edge_segments, node_grid
+from domethyme.network import grid, parallel, zoom_levels
+from domethyme.network.indexes import bounding_box, edge_grid, edge_segments, node_degrees, node_grid
 from domethyme.network.snapping import RoadIndex
 from domethyme.network.sphere import nearest_on_segments
 from domethyme_service.tiles import Tiles
@@ -112,6 +114,61 @@ def test_steps_of_all_lengths(data):
         assert abs(away - wanted) <= most and 0 <= share <= 1
         found = sphere.interpolate(*step, share)
         assert abs(sphere.metres_between(place, found) - wanted) <= most, (step, share, at)
+
+
+def test_steps_by_kind_and_cell(monkeypatch):
+    """The first kind that there is is always shown, another one from the zoom at which a step of it or of those before has few in its
+    cell on average. The steps of a kind are in the order of their cells, and those of a cell in their own."""
+    draw = np.random.default_rng(2)
+    monkeypatch.setattr(zoom_levels, "MAX_PER_CELL", 4)
+    monkeypatch.setattr(parallel, "SLICE_ROWS", 7)
+    for count in (0, 1, 4, 8, 20, 40, 60, 80):
+        kinds, edges = draw.choice(draw.integers(0, 6, 3), count), np.arange(count, dtype=np.int32)[::-1]
+        codes = (draw.integers(0, 1 << 30, count) >> 2 * draw.integers(0, 14, count)) * (count > 8)
+        (begins, *found), zooms = zoom_levels.sort_by_cell(
+            lambda part: codes[part].astype(np.uint32), kinds[::-1].astype(np.uint8), 2 * edges[::-1], edges
+        )
+        rows = sorted(zip(kinds.tolist(), codes.tolist(), range(0, 2 * count, 2), edges.tolist()))
+        assert [*zip(*(column.tolist() for column in found))] == [row[1:] for row in rows]
+        assert begins.tolist() == [sum(row[0] < kind for row in rows) for kind in range(7)]
+        least = 0
+        for place, kind in enumerate(sorted({*kinds.tolist()})):
+            codes_to = [code for each, code, *_ in rows if each <= kind]
+            while place and least < 15:
+                cells = collections.Counter(code >> 2 * (15 - least) for code in codes_to).values()
+                if sum(each**2 for each in cells) <= 4 * len(codes_to):
+                    break
+                least += 1
+            assert zooms[kind] == least
+
+
+def test_bounding_box():
+    """The narrowest one to a hundredth of a degree, whose east may be beyond 180."""
+    draw = np.random.default_rng(3)
+    for count in (1, 2, 2, 3, 3, 4, 8, 8):
+        lons, lats = draw.integers(-180 * 10**7, 180 * 10**7, count, endpoint=True), draw.integers(-9 * 10**8, 9 * 10**8, count)
+        lons = np.append(lons, [-18 * 10**8, 18 * 10**8][: count % 3])
+        lats = np.resize(lats, len(lons))
+        west, south, east, north = bounding_box(np.column_stack((lons, lats)).astype(np.int32))
+        turned = np.sort((lons - west) % (36 * 10**8))
+        assert (south, north, west in lons, east in lons or east - 36 * 10**8 in lons) == (lats.min(), lats.max(), True, True)
+        assert -18 * 10**8 <= west <= 18 * 10**8 and east - west in (turned[-1], 36 * 10**8)
+        assert 36 * 10**8 - (east - west) >= np.diff(np.append(np.unique(turned), 36 * 10**8)).max() - 10**5
+    assert bounding_box(np.empty((0, 2), np.int32)) == [0, 0, 0, 0]
+
+
+def test_many_edges_at_a_node():
+    """255 are counted, and a ring once."""
+    nodes = [(0, 0), *((0.01, 0.001 * row) for row in range(256))]
+    roads = [*(Road(0, end, 5, 5) for end in range(1, 257)), Road(1, 1, 5, 5, ((0.02, 0), (0.02, -0.01)))]
+    assert node_degrees(arrays(nodes, roads)).tolist() == [0, 255, 2, *[1] * 255]
+
+
+@pytest.mark.parametrize("lat, row, y", [(86, 0, 0), (-86, 31, 1024)])
+def test_tiles_end_before_the_poles(tmp_path, lat, row, y):
+    """A road beyond them is at their side. 10 degrees are 0.8889 of a tile from 0, and 10.5 are 0.9333."""
+    tiles = Tiles(network([(10, lat), (10.5, lat * 1.04)], [Road(0, 1, 5, 5)]))
+    assert [road["lines"] for road in json.loads(tiles.tile(5, 16, row))["roads"]] == [[[910, y, 46, 0]]]
 
 
 class NearestTests(ToolCase):

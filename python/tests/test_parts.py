@@ -120,6 +120,15 @@ def read_again(drawn):
         return from_tables.arrays_from_tables(f"{folder}/n").points.tolist()
 
 
+def snapped(drawn):
+    """Points of roads near places, of few and of many at once, and edges, also of few and of many."""
+    roads, numbers = snapping.RoadIndex(drawn.network), [7 * row % 50 for row in range(40)]
+    spots = [*map(tuple, (np.column_stack((drawn.network.node_lon[:40], drawn.network.node_lat[:40])) / 1e7 + 1e-4).tolist())]
+    found = [*roads.nearest_within(spots, [300.0] * 40), *roads.nearest_within(spots[:3], [1e3] * 3)]
+    edges = [roads.find_edges(some)[each] for some in (numbers, numbers[:5], numbers[30:34]) for each in some]
+    return plain([found, roads.nearest_of_each(spots, 3, 300.0), edges])
+
+
 CASES = [
     (batch, "CHUNK_SIZE", in_blocks), (hierarchy_file, "MAX_READ", lambda drawn: domethyme.Hierarchy(f"{drawn.prefix}.rch").length(0, 5)),
     (links, "AT_A_TIME", comparing),
@@ -128,6 +137,7 @@ CASES = [
     (parallel, "SLICE_ROWS", lambda drawn: drawn.hierarchy.network.roads.nearest((0.1, 0.1), 3)),
     (reach, "CHUNK", reached),
     (from_tables, "LINES_AT_ONCE", read_again),
+    *((snapping, name, snapped) for name in ("EDGE_CACHE_SIZE", "FEW_PLACES", "MANY_EDGES", "MAX_CANDIDATES", "PLACES_PER_BATCH")),
     (snapping, "SEGMENTS_PER_BATCH", lambda drawn: snapping.RoadIndex(drawn.network).nearest((0.1, 0.1), 100)),
     (table, "CELLS", table_by_tool),
     (table, "CELLS", lambda drawn: table_by_tool(drawn, "--on-roads")),
