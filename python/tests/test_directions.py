@@ -97,6 +97,10 @@ def test_points_of_another_network(made: Any, data: Any) -> None:
                 hierarchy.table(others)
         else:
             assert hierarchy.table(others).tolist() == hierarchy.table(spots, radius=math.inf, snapping="any").tolist()
+        edges = hierarchy.network.roads.edges
+        for edge in (-1, edges):
+            with pytest.raises(domethyme.NetworkError, match="place 1 is a point on the roads of another network"):
+                hierarchy.table([own[0], own[1]._replace(edge=edge)])
         with pytest.raises(ValueError, match="have no bearings, radiuses or approaches"):
             hierarchy.directions(own, bearings=[None] * len(spots))
 

@@ -45,7 +45,7 @@ def test_places_between_short_roads(tmp_path, middle, wide, count):
         assert [each.edge for each in roads.nearest(place, 2)] == edges and spot.edge == edges[0], place
 
 
-FEW = {"CHUNK_SIZE": 3, "MAX_CANDIDATES": 8, "BATCH_SIZE": 7}
+FEW = {"CHUNK_SIZE": 3, "MAX_CANDIDATES": 20, "BATCH_SIZE": 7}
 
 
 def ahead(place, turn, degrees):
@@ -76,6 +76,9 @@ def test_what_is_within_some_metres(monkeypatch, long, wide, count, few):
     lines[-10:] = lines[10:20]
     units = np.rint(np.array(lines).reshape(-1, 2) * 1e7).astype(np.int32)
     made = edge_grid(units, *edge_segments(np.arange(len(lines) + 1) * 2)) if long else node_grid(*units[::2].T)
+    for row, middle in enumerate(made.middles(np.arange(len(made.keys))).tolist()):
+        ways = [sphere.nearest_on_segment(middle, *lines[thing])[0] for thing in made.things_in(np.array([row]))]
+        assert long > 1 or abs(middle[1]) > 80 or max(ways) <= made.cell_metres - made.margin
     spots = [draw.choice([beside(wide), draw.choice(lines)[draw.randrange(2)]]) for _ in range(count)]
     away = np.array([[sphere.nearest_on_segment(spot, *line)[0] for line in lines] for spot in spots])
     for spot, far in zip(spots, away):
@@ -83,14 +86,17 @@ def test_what_is_within_some_metres(monkeypatch, long, wide, count, few):
         which, found = made.candidates_of_each([spot, (0, 0), spot], reach)
         in_cells = made.things_in(made.cells_near(*np.array([spot]).T, np.array([reach])))
         one_by_one = np.concatenate([[-1], *made.candidates(spot, reach)])
-        for things in (one_by_one, in_cells, *([] if few else [found[which == 2]])):
+        for things in (one_by_one, in_cells, *([found[which == 2]] if 2 in which or not few else [])):
             assert {*np.flatnonzero(far <= reach - 0.01)} <= {*things.tolist()}
     away = away.round(3)
     away[[0, -1]], away[1:-1, ::3] = np.inf, np.inf
     order = np.argsort(away, kind="stable")
     for far, spot, rows in zip(away[1:], spots[1:], order[1:]):
-        count = draw.choice([1, 2, 30])
-        assert made.nearest(spot, count, far.__getitem__) == [(far[row], row) for row in rows[:count] if far[row] < np.inf]
+        count = draw.choice([1, 2, 15])
+        wanted, within = [(far[row], row) for row in rows[:count] if far[row] < np.inf], far[rows[draw.randrange(4)]]
+        assert made.nearest(spot, count, far.__getitem__) == wanted
+        some = made.nearest(spot, count, far.__getitem__, within=within)
+        assert [each for each in some if each[0] <= within] == [each for each in wanted if each[0] <= within]
     nearest, metres = made.nearest_batch(*np.array(spots).T, lambda rows, things: away[rows, things])
     assert nearest.tolist() == [-1, *order[1:-1, 0], -1] and metres.tolist() == away[range(len(spots)), order[:, 0]].tolist()
 
