@@ -10,7 +10,7 @@ import pytest
 from reach_case import APART, ISLAND, MILLI, Road, lengths, network, town
 from shapely import vectorized
 from shapely.affinity import scale, translate
-from shapely.geometry import LineString, MultiPolygon, Point, Polygon, box as rectangle, shape
+from shapely.geometry import LineString, MultiLineString, MultiPolygon, Point, Polygon, box as rectangle, shape
 
 from domethyme.network import contour_shapes, isochrones, net_file
 from domethyme.network.contours import NONE, contours, meshes_of, nearest_levels, nearest_levels_far
@@ -375,6 +375,18 @@ def test_a_fixed_town_byte_for_byte():
         arms = [rectangle(-long, -broad, long, broad), rectangle(-broad, -long, broad, long)]
         outline = LineString(feature["geometry"]["coordinates"][0])
         assert outline.hausdorff_distance(arms[0].union(arms[1]).boundary) < 2 / MILLI / 1000
-    (whole,) = contours(Reach(net, lengths(net, {0: 0}), [10_000]))[0].polygons  # (2224 m wide: the allowance is 200 m)
-    arms = LineString([(-0.01, 0), (0.01, 0)]).union(LineString([(0, -0.01), (0, 0.01)]))
-    assert whole.boundary.hausdorff_distance(arms.buffer(200 / MILLI / 1000).boundary) < 10 / MILLI / 1000
+
+
+@pytest.mark.parametrize("far, count, allowance, step", [(0.0045, 2, 125.09, 1), (0.01, 4, 200, 8), (1, 4, 2048, 1024)])
+def test_allowances(far, count, allowance, step):
+    """Places beside roads are inside up to an eighth of the extent, or 200 m, or two steps. A node without roads isn't, also in the
+    square of one that is reached."""
+    ends = [(-far, 0), (far, 0), (0, far), (0, -far)][:count]
+    net = network([(0, 0), *ends, (1e-6, 1e-6)], [Road(0, end, 10_000, 10_000) for end in range(1, count + 1)])
+    found = lengths(net, {0: 0})
+    reach = Reach(net, found, [10_000])
+    (contour,) = contours(reach)
+    arms = MultiLineString([((0, 0), end) for end in ends]).buffer(allowance / MILLI / 1000)
+    (outline,) = (Polygon(each.exterior).boundary for each in contour.polygons)
+    assert outline.hausdorff_distance(arms.boundary) < 1.1 * step / MILLI / 1000 and contour.step == step
+    assert misplaced(net, found, reach, 0, contour)[:2] == (0, 0)
