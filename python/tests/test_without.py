@@ -14,7 +14,7 @@ from hypothesis import given
 from hypothesis import strategies as st
 from model.network import Ambiguous, Arc, Network
 from model.request import Request
-from test_generated_package import check_nearest
+from test_generated_package import check_frames, check_nearest
 from test_generated_service import ask, check, requests
 from tool_case import ToolCase
 
@@ -119,6 +119,25 @@ def test_isochrones(data: Any) -> None:
         service = serve(prefix, {frozenset([name]): f"{prefix}.few.rch"})
         query = {"contours_meters": "300,700,2000", "polygons": "true", "exclude": name}
         check(wanted, service, Request("isochrone", data.draw(places(wanted.roads, 1)), query), set())
+
+
+@drawn(25)
+@given(st.data())
+def test_the_largest_set(data: Any) -> None:
+    """to_network --largest makes the tables of its nodes, in their order, and of the arcs between them."""
+    made = data.draw(networks())
+    made.tables.nodes[:] = [node._replace(key=f"key {number}") for number, node in enumerate(made.tables.nodes)]
+    few = without(made, lambda arc: False)
+    if few is None:
+        return
+    kept = sorted({node for arc in few.tables.arcs for node in arc[:2]})
+    arcs = [arc._replace(start=kept.index(arc.start), end=kept.index(arc.end)) for arc in few.tables.arcs]
+    wanted = Network([made.tables.nodes[node] for node in kept], arcs)
+    with tempfile.TemporaryDirectory() as folder:
+        said = write_network(made._replace(has_keys=True), pathlib.Path(folder) / "net", "--largest")
+        left, count = len(made.tables.nodes) - len(kept), len(made.tables.nodes)
+        assert f"{len(kept)} of {count} nodes reach one another, and {left} don't" in said or not left
+        check_frames(few._replace(tables=wanted), domethyme.Network(f"{folder}/net"))
 
 
 def differs(made: Drawn, wanted: Drawn, path: str, network: Any) -> None:
