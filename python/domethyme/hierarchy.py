@@ -320,7 +320,7 @@ class Hierarchy:
         FeatureCollection (Features, a dict) with a Feature for each number of minutes, the greatest first, with the properties of Mapbox's
         Isochrone API. It begins at the nearest point of a road, in both directions. Needs the network, scipy and shapely.
 
-        minutes     numbers that rise, (5, 10, 15) without them and without `metres`; weights have to be milliseconds
+        minutes     up to 127 that rise, (5, 10, 15) without them and without `metres`; weights have to be milliseconds
         metres      the same in metres; weights have to be centimetres
         shape       "polygons", "lines" (their outlines) or "roads" (those that are reached)
         generalize  simplified by this many metres

@@ -38,8 +38,8 @@ def test_copies_of_a_node_count_once():
 
 
 def test_nothing_is_reached():
-    reach = Reach(network(ROW, ROADS), np.full(6, -1), [1000])
-    assert reach.boxes == [None] and list(reach.roads(0)) == []
+    reach = Reach(network(ROW, ROADS), np.full(6, -1), range(127))
+    assert reach.boxes == [None] * 127 and list(reach.roads(126)) == []
 
 
 @pytest.mark.parametrize("off", [0.001, 0.0089, -0.0089])
@@ -66,6 +66,7 @@ def test_a_place_at_a_node_from_which_one_road_is_taken():
 @pytest.mark.parametrize("values, limits", [
     (np.zeros(3, np.int64), [1]), (np.zeros(6), [1]), (np.zeros(6, np.uint64), [1]),
     (np.zeros(6, np.int64), []), (np.zeros(6, np.int64), [-1]), (np.zeros(6, np.int64), [2, 2]),
+    (np.zeros(6, np.int64), range(128)),
 ])
 def test_what_does_not_fit(values, limits):
     with pytest.raises(ValueError):

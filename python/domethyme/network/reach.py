@@ -36,6 +36,8 @@ SHORT = 1024
 ZONE_STEP, ZONE_SQUARES, MAX_ZONE_LAT = 128.0, 1024, 85.0
 # Edges of more metres may lead far from the nodes from which they are reached.
 LONG = 256.0
+# How many limits there may be: levels, which are up to that number, have 7 bits beside distances.
+MAX_LIMITS = 127
 # Roads are shown to so many decimals of a degree, 11 cm.
 DECIMALS = 6
 
@@ -294,7 +296,7 @@ class Reach:
         lengths   the least length of each node from the nearest start, of shape (nodes,); below 0 for none, or for one
                   beyond the greatest limit. A place on a road starts at the nodes that it leads to, each with the weight
                   between added
-        limits    integers from 0, each greater than the one before
+        limits    integers from 0, each greater than the one before, MAX_LIMITS at most
         places    the starts that lie on roads between nodes; what is reached of these roads from there is added
         towards   whether lengths are those to the starts instead, and what leads there is to be found
         """
@@ -304,6 +306,8 @@ class Reach:
             raise ValueError(f"lengths have to be integers with a sign, one for each of {len(network.node_lon)} nodes")
         if not self.limits or self.limits[0] < 0 or any(low >= high for low, high in zip(self.limits, self.limits[1:])):
             raise ValueError("limits have to be numbers from 0, each greater than the one before")
+        if len(self.limits) > MAX_LIMITS:
+            raise ValueError(f"there are {len(self.limits)} limits, and {MAX_LIMITS} at most")
         self._places = [place for place in places if 0 < place.fraction < 1]
         self._edges_of_places = np.array([place.edge for place in self._places], dtype=np.int64)
         self._parts = [part for place in self._places for part in self._parts_at(place)]
