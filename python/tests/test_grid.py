@@ -43,6 +43,7 @@ def test_places_between_short_roads(tmp_path, middle, wide, count):
     for place, spot in zip(places, roads.nearest_within(places, [math.inf] * len(places)), strict=True):
         edges = [point.edge for _, point in itertools.islice(net.by_distance(place, None), 2)]
         assert [each.edge for each in roads.nearest(place, 2)] == edges and spot.edge == edges[0], place
+    assert roads.nearest_of_each(places, 3, 400.0) == [roads.nearest(place, 3, within=400.0, is_any=True) for place in places]
 
 
 FEW = {"CHUNK_SIZE": 3, "MAX_CANDIDATES": 20, "BATCH_SIZE": 7}
