@@ -13,7 +13,7 @@ from hypothesis import given
 from hypothesis import strategies as st
 from model import sphere
 from model.network import Arc, Network, Node
-from reach_case import Road, arrays, network
+from reach_case import MILLI, Road, arrays, network
 from tool_case import ToolCase
 
 from domethyme.network import grid, parallel, zoom_levels
@@ -124,8 +124,8 @@ def test_steps_of_all_lengths(data):
 
 
 def test_steps_by_kind_and_cell(monkeypatch):
-    """The first kind that there is is always shown, another one from the zoom at which a step of it or of those before has few in its
-    cell on average. The steps of a kind are in the order of their cells, and those of a cell in their own."""
+    """The first kind that there is is always shown, another one from the zoom at which a step of it or of those before has few in
+    its cell on average. The steps of a kind are in the order of their cells, and those of a cell in their own."""
     draw = np.random.default_rng(2)
     monkeypatch.setattr(zoom_levels, "MAX_PER_CELL", 4)
     monkeypatch.setattr(parallel, "SLICE_ROWS", 7)
@@ -169,6 +169,15 @@ def test_many_edges_at_a_node():
     nodes = [(0, 0), *((0.01, 0.001 * row) for row in range(256))]
     roads = [*(Road(0, end, 5, 5) for end in range(1, 257)), Road(1, 1, 5, 5, ((0.02, 0), (0.02, -0.01)))]
     assert node_degrees(arrays(nodes, roads)).tolist() == [0, 255, 2, *[1] * 255]
+
+
+@pytest.mark.parametrize("metres, is_end", [(0.004, True), (0.006, False)])
+def test_points_near_an_end(metres, is_end):
+    """One up to 5 mm from an end is the node there."""
+    roads = RoadIndex(network([(0, 0), (0.001, 0)], [Road(0, 1, 5, 5)]))
+    for end in (0, 1):
+        (point,) = roads.nearest((abs(0.001 * end - metres / MILLI / 1000), 0))
+        assert ((point.fraction, point.copies) == (end, (end,))) == is_end == (not point.arcs)
 
 
 @pytest.mark.parametrize("lat, row, y", [(86, 0, 0), (-86, 31, 1024)])

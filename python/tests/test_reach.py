@@ -57,7 +57,7 @@ def test_a_place_at_a_node_from_which_one_road_is_taken():
     """What is reached begins at the node, though it isn't reached itself."""
     roads = RoadIndex(network(ROW, ROADS))
     (point,) = roads.nearest((0.001, 0))
-    for arc, edge in ((1, 0), (0, 0)):
+    for arc in (1, 0):
         some = roads.keep_arcs(point, {arc: roads.arc(arc)})
         reach = isochrones.reach_of(roads, [some], [500], lambda starts, most: np.full(6, -1))
         assert reach.roads(0) == ([[(0.0005, 0), (0.001, 0)]] if arc else [])
@@ -167,12 +167,14 @@ def test_within(made_town, form, kinds, towards):
     ((0, 0), {"minutes": [5, 3]}, ValueError, "greater than the one before"),
     ((0, 0), {"metres": [5]}, ValueError, "aren't a distance"),
     ((0, 0), {"minutes": [5], "metres": [5]}, ValueError, "one of both"), ((0, 0), {"minutes": [1e300]}, ValueError, "too much"),
-    ((0, 0), {"colors": ["red"] * 3}, ValueError, "hexadecimal"), ((0, 0), {"colors": ["ff0000"]}, ValueError, "colours"),
+    ((0, 0), {"colors": ["red"] * 3}, ValueError, "hexadecimal"),
+    ((0, 0), {"colors": ["ff0000"]}, ValueError, "3 limits, and 3 numbers and 1 colours"),
     ((0, 0), {"colors": 5}, ValueError, "hexadecimal"), ((0, 0), {"colors": [5, 5, 5]}, ValueError, "hexadecimal"),
     ((0, 0), {"generalize": "x"}, ValueError, "generalize"), ((0, 0), {"denoise": "x"}, ValueError, "denoise"),
-    ((0, 0), {"denoise": 2}, ValueError, "denoise"), ((0, 0), {"generalize": -1}, ValueError, "generalize"),
+    ((0, 0), {"denoise": 2}, ValueError, "denoise has .* 2"), ((0, 0), {"generalize": -1}, ValueError, "generalize has .* -1"),
     ((0, 0), {"minutes": [float("nan")]}, ValueError, "above 0"), ((0, 0), {"minutes": [0, 1]}, ValueError, "above 0"),
-    ((0, 0), {"minutes": [float("inf")]}, ValueError, "above 0"), ((0, 0), {"shape": "circles"}, ValueError, "shape"),
+    ((0, 0), {"minutes": [float("inf")]}, ValueError, "above 0"),
+    ((0, 0), {"shape": "circles"}, ValueError, "polygons, lines, roads, and is 'circles'"),
 ])
 def test_arguments_that_are_refused(row, place, words, error, says):
     with pytest.raises(error, match=says):
