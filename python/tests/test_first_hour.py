@@ -12,7 +12,6 @@ from tool_case import PYTHON, ROOT, TOOLS, VILLAGE
 
 import domethyme
 from domethyme import library
-from domethyme.network.components import in_largest
 
 
 @pytest.fixture(scope="module")
@@ -176,7 +175,6 @@ def test_largest_keeps_lines_and_keys(tmp_path, run):
         assert domethyme.open(tmp_path / "out").length(7, 9) == 36_000
     said = run(TOOLS / "nearest", "n.csv", "out", status=1)
     assert "n.csv: is a table: NETWORK comes first" in said
-    assert in_largest(np.zeros(3, np.uint8), np.array([0, 1, 1]), np.array([1, 0, 2])).tolist() == [True, True, False]
 
 
 CONTAINER = ROOT / "packaging/container/domethyme-container"

@@ -23,29 +23,6 @@ from domethyme.network.sphere import nearest_on_segments
 from domethyme_service.tiles import Tiles
 
 
-@pytest.mark.parametrize("middle, wide, count", [((9, 47), 0.03, 250), ((0, 90), 0.0015, 12), ((50, -90), 0.0015, 12)])
-def test_places_between_short_roads(tmp_path, middle, wide, count):
-    """Roads of some 8 metres, 250 metres apart: what is found in the nearest cells is often not the nearest, which is the model's.
-    At a pole those on its other side count, too. Places that are looked for together are found as each alone."""
-    draw = random.Random(4)
-
-    def beside(place, degrees):
-        lat = place[1] + draw.gauss(0, degrees)
-        lon = place[0] + draw.gauss(0, degrees) / np.cos(np.radians(47)) if abs(place[1]) < 80 else draw.uniform(-180, 180)
-        return round(lon, 7), round(lat if abs(lat) <= 90 else np.sign(lat) * 180 - lat, 7)
-
-    begins = [beside(middle, wide) for _ in range(count)]
-    lines = [(begin, (begin[0], round(begin[1] - np.sign(begin[1]) * 7e-5, 7))) for begin in begins]
-    arcs = [Arc(2 * row, 2 * row + 1, 7, 0.0, 8.0, line, row + 1) for row, line in enumerate(lines)]
-    net = Network([Node(*point) for line in lines for point in line], arcs)
-    write_network(Drawn(net, net, False), tmp_path / "net")
-    roads, places = RoadIndex(str(tmp_path / "net")), [beside(middle, wide) for _ in range(60)]
-    for place, spot in zip(places, roads.nearest_within(places, [math.inf] * len(places)), strict=True):
-        edges = [point.edge for _, point in itertools.islice(net.by_distance(place, None), 2)]
-        assert [each.edge for each in roads.nearest(place, 2)] == edges and spot.edge == edges[0], place
-    assert roads.nearest_of_each(places, 3, 400.0) == [roads.nearest(place, 3, within=400.0, is_any=True) for place in places]
-
-
 FEW = {"CHUNK_SIZE": 3, "MAX_CANDIDATES": 20, "BATCH_SIZE": 7}
 
 
@@ -55,6 +32,27 @@ def ahead(place, turn, degrees):
     north = np.arcsin(np.clip(np.sin(lat) * np.cos(far) + np.cos(lat) * np.sin(far) * np.cos(turn), -1, 1))
     east = np.arctan2(np.sin(turn) * np.sin(far) * np.cos(lat), np.cos(far) - np.sin(lat) * np.sin(north))
     return round(math.degrees(math.remainder(math.radians(place[0]) + east, math.tau)), 7), round(math.degrees(north), 7)
+
+
+@pytest.mark.parametrize("middle, wide, count", [((9, 47), 0.03, 250), ((0, 90), 0.0015, 12), ((50, -90), 0.0015, 12)])
+def test_places_between_short_roads(tmp_path, middle, wide, count):
+    """Roads of some 8 metres, 250 metres apart: what is found in the nearest cells is often not the nearest, which is the model's.
+    At a pole those on its other side count, too. Places that are looked for together are found as each alone."""
+    draw = random.Random(4)
+
+    def beside():
+        return ahead(middle, draw.uniform(0, math.tau), abs(draw.gauss(0, wide)))
+
+    begins = [beside() for _ in range(count)]
+    lines = [(begin, ahead(begin, math.pi if begin[1] > 0 else 0, 7e-5)) for begin in begins]
+    arcs = [Arc(2 * row, 2 * row + 1, 7, 0.0, 8.0, line, row + 1) for row, line in enumerate(lines)]
+    net = Network([Node(*point) for line in lines for point in line], arcs)
+    write_network(Drawn(net, net, False), tmp_path / "net")
+    roads, places = RoadIndex(str(tmp_path / "net")), [beside() for _ in range(60)]
+    for place, spot in zip(places, roads.nearest_within(places, [math.inf] * len(places)), strict=True):
+        edges = [point.edge for _, point in itertools.islice(net.by_distance(place, None), 2)]
+        assert [each.edge for each in roads.nearest(place, 2)] == edges and spot.edge == edges[0], place
+    assert roads.nearest_of_each(places, 3, 400.0) == [roads.nearest(place, 3, within=400.0, is_any=True) for place in places]
 
 
 @pytest.mark.parametrize("long, wide, count, few", [
@@ -187,41 +185,29 @@ def test_tiles_end_before_the_poles(tmp_path, lat, row, y):
     assert [road["lines"] for road in json.loads(tiles.tile(5, 16, row))["roads"]] == [[[910, y, 46, 0]]]
 
 
-class NearestTests(ToolCase):
-    def test_many_entries_of_few_things(self):
-        """More are asked for than lie in a circle whose cells have very many entries: the search ends, and finds those beyond."""
-        rows, arcs = ["lon,lat"], ["from,to,weight,WKT"]
-        for number in range(1000):  # (roads beside one another, each of ten steps in other cells)
-            line = [(9 + number / 60_000, 47 + step * 0.003) for step in range(11)]
-            rows += [f"{lon},{lat}" for lon, lat in (line[0], line[-1])]
-            arcs.append(
-                f'{len(rows) - 2},{len(rows) - 1},5,"LINESTRING ({", ".join(f"{lon} {lat}" for lon, lat in line)})"'
-            )
-        for number in range(100):
-            rows += [f"{9.4 + number / 100_000},47.2", f"{9.4 + number / 100_000},47.201"]
-            arcs.append(f"{len(rows) - 2},{len(rows) - 1},5,")
-        self.write("n.csv", "\n".join(rows))
-        self.write("a.csv", "\n".join(arcs))
-        self.run_tool("to_network", "n.csv", "a.csv", "net")
-        roads, place = RoadIndex(str(self.folder / "net")), (9.0051, 47.0151)
-        edges = roads.arrays.edge_grid
-        self.assertGreater(len(edges.things), grid.MAX_CANDIDATES + 1000)
-        steps = []
-        for count in (1, 999, 1001, 1050, 1100):
-            found = roads.nearest(place, count, lambda: steps.append(count))
-            self.assertEqual((len(found), len({spot.edge for spot in found})), (count, count))
-            self.assertEqual([spot.metres for spot in found], sorted(spot.metres for spot in found))
-        self.assertLess(len(steps), 200)
-        with self.assertRaises(ZeroDivisionError):
-            roads.nearest(place, 1050, lambda: 1 / 0)
+def test_many_entries_of_few_things():
+    """More are asked for than lie in a circle whose cells have very many entries: the search ends, and finds those beyond."""
+    lines = [[(9 + number / 60_000, 47 + step * 0.003) for step in range(11)] for number in range(1000)]  # (each in ten cells)
+    lines += [[(9.4 + number / 100_000, 47.2 + step / 1000) for step in range(2)] for number in range(100)]
+    nodes = [end for line in lines for end in (line[0], line[-1])]
+    ways = [Road(2 * row, 2 * row + 1, 5, None, tuple(line[1:-1])) for row, line in enumerate(lines)]
+    roads, place, steps = RoadIndex(network(nodes, ways)), (9.0051, 47.0151), []
+    assert len(roads.arrays.edge_grid.things) > grid.MAX_CANDIDATES + 1000
+    for count in (1, 999, 1001, 1050, 1100):
+        found = roads.nearest(place, count, lambda: steps.append(count))
+        assert (len(found), len({spot.edge for spot in found})) == (count, count)
+        assert [spot.metres for spot in found] == sorted(spot.metres for spot in found)
+    assert len(steps) < 200
+    with pytest.raises(ZeroDivisionError):
+        roads.nearest(place, 1050, lambda: 1 / 0)
 
-    def test_cells_hold_their_places(self):
-        """Each cell is at least as wide as its band is high, and a place on the seam is beside its neighbour."""
-        counts = grid.columns_per_band(0.0025)
-        self.assertEqual((len(counts), counts[0], counts[36000], counts.max()), (72000, counts[-1], counts[35999], 143999))
-        self.assertLessEqual(int(counts[0]), 6)
-        keys = grid.cell_keys(np.array([180.0, -180.0, 179.9999]), np.array([0.001] * 3), 0.0025)
-        self.assertEqual(keys.tolist(), [(36000 << 32) + 143998, 36000 << 32, (36000 << 32) + 143998])
+
+def test_cells_hold_their_places():
+    """Each cell is at least as wide as its band is high, and a place on the seam is beside its neighbour."""
+    counts = grid.columns_per_band(0.0025)
+    assert (len(counts), counts[0], counts[36000], counts.max()) == (72000, counts[-1], counts[35999], 143999) and counts[0] <= 6
+    keys = grid.cell_keys(np.array([180.0, -180.0, 179.9999]), np.array([0.001] * 3), 0.0025)
+    assert keys.tolist() == [(36000 << 32) + 143998, 36000 << 32, (36000 << 32) + 143998]
 
 
 class MeridianTests(ToolCase):

@@ -5,7 +5,7 @@ import pytest
 from draws import drawn, run_tool
 from hypothesis import given
 from hypothesis import strategies as st
-from reach_case import Road, lengths, network, prepared, town, town_map
+from reach_case import Road, lengths, network, prepared, town_map
 from shapely.geometry import Point, shape
 
 import domethyme
@@ -78,25 +78,6 @@ def test_what_does_not_fit(values, limits):
 def test_limits_in_the_unit_of_weights(kind, value):
     unit, name, factor = kind
     assert isochrones.limits(unit, **{name: [float(value)]}) == [int(value * factor)]
-
-
-@pytest.mark.parametrize("towards", [False, True])
-def test_a_town_road_by_road(towards):
-    """The metres that are reached of a town, beside those of each arc by its own start, or end."""
-    net, _ = town()
-    found, limit = lengths(net, {100: 0}, towards), 90_000
-    wanted = {}
-    for arc in range(len(net.arc_from)):
-        start, weight = int((net.arc_to if towards else net.arc_from)[arc]), int(net.arc_weight[arc])
-        share = min(1.0, (limit - found[start]) / weight) if 0 <= found[start] <= limit else 0.0
-        wanted.setdefault(int(net.arc_edge[arc]), []).append(share)
-    metres = {int(edge): float(long) for edge, long in zip(net.arc_edge[:], net.arc_metres[:])}
-    expected = sum(min(1.0, sum(shares)) * metres[edge] for edge, shares in wanted.items())
-    reach = Reach(net, found, [limit], towards=towards)
-    points = [reach.plane.of(np.round(np.array(line) * 1e7).astype(np.int32)) for line in reach.roads(0)]
-    found = sum(np.hypot(*np.diff(each, axis=0).T).sum() for each in points)
-    assert found == pytest.approx(expected, abs=0.2 * len(points))
-    assert 100 < len(points) < len(net.edge_begin) - 1
 
 
 @pytest.mark.parametrize("starts, limit, says", [
