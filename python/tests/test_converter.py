@@ -218,7 +218,7 @@ class ThreadTests(unittest.TestCase):
         for row in self.rows:
             found = parallel.map_slices(lambda part: row[part], len(row))
             self.assertEqual([value for part in found for value in part], row)
-            self.assertTrue(all(len(part) <= 4 for part in found))
+            self.assertTrue(len(found) == max(1, -(-len(row) // 4)) and all(len(part) <= 4 for part in found))
 
     def test_the_first_fault_is_raised(self):
         with self.assertRaisesRegex(ValueError, "^8$"):
