@@ -22,13 +22,13 @@ class Near(NamedTuple):
 
 
 class Direction(NamedTuple):
-    """Whole degrees from 0 to 359, to a degree."""
+    """Whole degrees from 0 to 359, rounded."""
 
     degrees: float
 
     def differs(self, found: Any) -> bool:
         is_whole = isinstance(found, int) and 0 <= found < 360
-        return not is_whole or abs((found - self.degrees + 180) % 360 - 180) > 1.01
+        return not is_whole or abs((found - self.degrees + 180) % 360 - 180) > 0.7
 
 
 class Intersection(NamedTuple):
@@ -151,7 +151,7 @@ def unwrapped(line: Iterable[Point]) -> list[Point]:
 
 
 def tolerance_of(form: str) -> float:
-    return 1.1e-5 if form == "polyline" else 1.6e-6
+    return 6e-6 if form == "polyline" else 7e-7
 
 
 def decoded(found: Any, form: str) -> list[Point] | None:

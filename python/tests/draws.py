@@ -77,6 +77,9 @@ def networks(draw: Any, kinds: Sequence[str] = KINDS, most: int = 8, origins: Se
         end = draw(st.integers(0, count - 1))
         inner = [draw(points_near(origin, scale)) for _ in range(draw(st.sampled_from([0, 0, 1, 2, 4])))]
         line = (nodes[start].place, *inner, nodes[end].place)
+        if draw(st.integers(0, 7)) == 0:  # (a point twice)
+            at = draw(st.integers(0, len(line) - 1))
+            line = (*line[:at], *line[at:][:1], *line[at:])
         bent = [arc for arc in arcs if len(arc.line) > 2]
         if bent and draw(st.integers(0, 5)) == 0:  # (by all points of another way)
             start, end, *_, line = draw(st.sampled_from(bent))[:6]
@@ -88,11 +91,21 @@ def networks(draw: Any, kinds: Sequence[str] = KINDS, most: int = 8, origins: Se
             arcs.append(draw_arc(draw, kind, end, start, line[::-1], texts))
         if draw(st.integers(0, 5)) == 0:
             arcs.append(draw_arc(draw, kind, start, end, line, texts))
+    has_ring = draw(st.integers(0, 3)) == 0  # (at the end of a road of the same name)
+    if has_ring:
+        end, inner = draw(st.integers(0, count - 1)), [draw(points_near(origin, scale)) for _ in range(3)]
+        nodes.append(Node(*inner[0], f"node {count}" if has_keys else str(count + 1)))
+        texts = draw(st.sampled_from(NAMES)), "", "", "", HIGHWAYS[0]
+        for way, other, line in ((2 * most + 1, end, (inner[0], nodes[end].place)), (2 * most + 2, count, (*inner, inner[0]))):
+            arcs.append(draw_arc(draw, kind, count, other, line, (way, *texts)))
+            arcs.append(draw_arc(draw, kind, other, count, line[::-1], (way, *texts)))
     if draw(st.integers(0, 3)) == 0:  # (the column of metres may say more than the line)
         longer = [arc._replace(metres=round(1.25 * arc.metres, 2)) for arc in arcs]
         arcs = [arc._replace(weight=round(100 * arc.metres)) for arc in longer] if kind == "distance" else longer
     turns = [(a, b) for a, one in enumerate(arcs) for b, other in enumerate(arcs) if one.end == other.start]
     forbidden = draw(st.sets(st.sampled_from(turns), max_size=4)) if turns and draw(st.integers(0, 2)) == 0 else set()
+    if has_ring:
+        forbidden |= {draw(st.sampled_from([turn for turn in turns if arcs[turn[0]].end == count]))}
     roads = Network(nodes, arcs, forbidden, draw(st.booleans()))
     return Drawn(roads, split(roads) if forbidden else roads, has_keys)
 

@@ -52,6 +52,9 @@ def test_a_crossing(tmp_path: pathlib.Path, forbidden: list[tuple[int, int]], en
         {"location": [0.0, 0.0], "bearings": [0, 90, 180, 270], "entry": entry, "in": 3, "out": 1},
     ]
     assert arrival["intersections"] == [{"location": [0.0005, 0.0], "bearings": [270], "entry": [True], "in": 0}]
+    for places, nodes in (("-0.001,0;0.001,0", [2, 1, 3]), ("-0.0005,0;0.0005,0", [0, 1, 0])):
+        (leg,) = ask(open_service(tmp_path / "net"), f"/route/v1/car/{places}?annotations=nodes")[1]["routes"][0]["legs"]
+        assert leg["annotation"]["nodes"] == nodes
 
 
 def test_a_turn_at_a_split_junction(tmp_path: pathlib.Path) -> None:

@@ -10,11 +10,12 @@ from comparing import AnyOf, Contour, Holds, Line, Near, Others, Simplified
 from . import matching
 from .network import Ambiguous, Network, Part, SnappedPoint
 from .request import Request
-from .sphere import Point, clip, metres_between
+from .sphere import Point, along, clip, metres_between
 from .steps import steps
 
-# The roundings of degrees, metres and seconds, and of metres to a point as it is shown; and alternatives up to which an answer is compared with each.
-DEGREES, METRES, SECONDS, STANDING, MOST = 1.1e-6, 0.011, 0.0015, 0.2, 256
+# The roundings of degrees, metres and seconds, of metres to a point as it is shown, and of probabilities; and up to how many
+# alternatives an answer is compared with each.
+DEGREES, METRES, SECONDS, STANDING, TRUST, MOST = 7e-7, 0.0065, 0.0015, 0.2, 1e-3, 256
 UNITS = {"duration": 1000, "distance": 100}
 TEXT = Holds("a text", lambda value: isinstance(value, str))
 SHAPES = {"true": ("Polygon", "MultiPolygon"), "false": ("LineString", "MultiLineString")}
@@ -157,7 +158,7 @@ def match(network: Network, request: Request) -> Any:
         raise Refused("NoMatch")
     if math.prod(map(len, options)) > MOST:
         raise Ambiguous
-    answers, trust = [], Holds("a probability", lambda value: 0 < value <= 1)
+    answers = []
     for some in itertools.product(*options):
         if not set(request.stops() if request.value("waypoints") else ()) <= {number for way in some for number in way.numbers}:
             raise Refused("NoMatch")  # (which points have a match doesn't depend on which of equally probable ways is taken)
@@ -167,7 +168,7 @@ def match(network: Network, request: Request) -> Any:
             ends = way.numbers[0], way.numbers[-1]
             stops = [at for at, number in enumerate(way.numbers) if number in ends or number in request.stops()]
             (whole,) = route_along(network, request, way.places, way.legs, stops)["routes"]
-            matchings.append({**whole, "confidence": trust})
+            matchings.append({**whole, "confidence": Near(way.confidence, TRUST)})
             for at, (number, place) in enumerate(zip(way.numbers, way.places)):
                 which = stops.index(at) if at in stops else None
                 points[number] = {**waypoint(network, place, request), "matchings_index": index, "waypoint_index": which}
@@ -211,23 +212,37 @@ def leg_answer(
 
 
 def annotation(network: Network, leg: Sequence[Part], names: Sequence[str], total: dict[str, Any]) -> dict[str, Any]:
-    """The annotations of a leg, for each step of its line: figures sum to the leg's, speeds and nodes are those of its arcs."""
-    known = {network.nodes[node].osm or 0 for arc, *_ in leg for node in network.arcs[arc][:2]} | {0}
+    """The annotations of a leg, for each step of its line: figures are an arc's by metres; speeds and nodes are those of arcs."""
     parts = [[each and each.value for each in figures(network, [part]).values()] for part in leg]
     speeds = [metres / seconds if seconds else 0.0 for _, seconds, metres in parts]
-    is_long = all(metres > 30 and (seconds or 0) > 0.5 for _, seconds, metres in parts)
+    is_long = all(metres > 30 for *_, metres in parts)
+    # for each step the share of its part; and the ids of nodes, with those between
+    steps, ids = list[tuple[int, float]](), [0]
+    for number, part in enumerate(leg):
+        line = along([(round(lon, 6), round(lat, 6)) for lon, lat in arc_line(network, part)])
+        shares = [(behind - before) / line[-1] for before, behind in itertools.pairwise(line) if behind > before]
+        steps += ((number, share) for share in shares)
+        ends = [network.nodes[node].osm or 0 for node in network.arcs[part[0]][:2]]
+        ids[-1:] = [ends[0] if part[1] == 0 else 0, *[0] * (len(shares) - 1), ends[1] if part[2] == 1 else 0]
+    known = {*ids}
 
     def rule(name: str, found: list[Any]) -> bool:
         if name in ("nodes", "datasources"):
-            return set(found) <= (known if name == "nodes" else {0}) and all(type(value) is int for value in found)
+            is_of_line = not is_long or name != "nodes" or len(found) != len(ids) or found == ids
+            return is_of_line and set(found) <= (known if name == "nodes" else {0}) and all(type(value) is int for value in found)
         if name in ("duration", "speed") and not network.has_seconds:
             return all(value is None for value in found)
         if name == "speed":
             near = [min(abs(value - speed) - 0.01 * speed for speed in speeds) for value in found]
-            return not is_long or max(near, default=0) <= 0.002
-        return not found or bool(abs(sum(found) - total[name].value) <= 0.001 * len(found) + total[name].tolerance)
+            return not is_long or any(seconds <= 0.5 for _, seconds, _ in parts) or max(near, default=0) <= 0.002
+        wholes = [parts[number][("weight", "duration", "distance").index(name)] for number, _ in steps]
+        if is_long and len(found) == len(steps):
+            rows = zip(found, wholes, (share for _, share in steps))
+            if any(abs(value - share * whole) > 0.005 + 0.01 * whole for value, whole, share in rows):
+                return False
+        return not found or bool(abs(sum(found) - total[name].value) <= 0.005 * len(found) + total[name].tolerance)
 
-    return {name: Holds(f"{name} of {total}, {speeds}, {known}", functools.partial(rule, name)) for name in names}
+    return {name: Holds(f"{name} of {total}, {steps}, {ids}, {speeds}", functools.partial(rule, name)) for name in names}
 
 
 def nearest(network: Network, request: Request) -> Any:
