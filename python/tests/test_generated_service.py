@@ -96,7 +96,7 @@ def test_routes_nearest_tables_and_trips(data: Any) -> None:
 @given(st.data())
 def test_traces(data: Any) -> None:
     made = data.draw(networks(most=5))
-    with tempfile.TemporaryDirectory() as folder:
+    with tempfile.TemporaryDirectory() as folder, mock.patch("domethyme.network.matching.STEPS_AT_ONCE", 2):
         service = serve(made, pathlib.Path(folder))
         with domethyme.Hierarchy(f"{folder}/net.rch", network=f"{folder}/net") as hierarchy:
             for _ in range(REQUESTS):
@@ -113,9 +113,11 @@ def check_match(hierarchy: domethyme.Hierarchy, request: Request, found: Any) ->
     match = hierarchy.match(request.places, seconds, deviation=matching.deviations(request), bearings=request.bearings(), **more)
     ways: list[list[int]] = [[] for _ in found.get("matchings", [])]
     for number, point in enumerate(found.get("tracepoints", [])):
-        assert (point is None) == (match.places[number] is None)
-        if point is not None:
+        place = match.places[number]
+        assert (point is None) == (place is None)
+        if place is not None:
             ways[point["matchings_index"]].append(number)
+            assert point["location"] == [place.lon, place.lat]
     assert [way.points for way in match.matchings] == ways and (ways or not any(match.places))
 
 

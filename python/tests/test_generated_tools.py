@@ -268,7 +268,7 @@ def is_way(roads: Network, feature: Any, way: matching.Way) -> bool:
     found, total = feature["properties"], figures(roads, *way.legs)
     expected = {
         "weight": sum(part[3] for leg in way.legs for part in leg), "seconds": total["duration"], "metres": total["distance"],
-        "confidence": Near(0.5, 0.5), "rows": [number + 2 for number in way.numbers]
+        "confidence": Near(way.confidence, 0.0015), "rows": [number + 2 for number in way.numbers]
     }
     steps = zip(itertools.pairwise(way.places), way.legs)
     return not difference(found, expected) and has_line(feature["geometry"], [

@@ -1,5 +1,6 @@
 """Traces by the package: on the village, where each figure is one of the drawing, and places on legs by plain enumeration. The ways of
 short traces are compared with the model's in test_generated_service.py."""
+import contextlib
 import datetime
 import itertools
 import json
@@ -11,12 +12,19 @@ from types import SimpleNamespace
 
 import numpy as np
 import pytest
+from draws import Drawn, drawn, write_network
+from hypothesis import given
+from hypothesis import strategies as st
+from model import matching as model_matching
+from model.network import Ambiguous, Arc, Network, Node
+from model.request import Request
 from model.sphere import metres_between, nearest_on_segment
+from reach_case import Road, prepared
 from tool_case import VILLAGE, ToolCase
 
 import domethyme
 from domethyme.network.legs import Leg
-from domethyme.network.matching import nearest_marks, parts_of
+from domethyme.network.matching import Matcher, Trace, nearest_marks, parts_of
 
 STEP = 111.195
 NO_ROAD = (0.0035, 0.0005)
@@ -51,6 +59,11 @@ class VillageTests(ToolCase):
                 self.assertEqual(feature, way.__geo_interface__)
                 self.assertEqual(feature["properties"]["points"], way.points)
 
+    def test_a_place_beside_its_way(self):
+        """One of the places between those that decide is beyond three deviations."""
+        (way,), places = self.hierarchy.match([(0.0003 + 0.0001 * number, 0.0002 * (number == 7)) for number in range(16)])
+        self.assertEqual((way.points, places[7]), ([*range(7), *range(8, 16)], None))
+
     def test_a_vehicle_that_stands(self):
         """Places to and fro by less than two deviations are one, and no metre counts twice."""
         trace = self.along(0.0002, 0.0006, 0.00052, 0.00058, 0.0009)
@@ -67,6 +80,7 @@ class VillageTests(ToolCase):
             self.assertEqual(self.hierarchy.network.roads.arc(arc).is_along, east == (self.hierarchy.network.roads.edge(places[0].edge).points[0][0] == 0.0))
             again = pickle.loads(pickle.dumps(way))
             assert (again.points, again.confidence, again.geojson()) == (way.points, way.confidence, way.geojson())
+            assert way.directions._repr_html_() is None
         found = self.hierarchy.match(self.along(0.0002, 0.0007), bearings=[(0, 10), (0, 10)])
         self.assertEqual((found.matchings, found.places), ([], [None, None]))
 
@@ -89,13 +103,11 @@ class VillageTests(ToolCase):
         domethyme.prepare(self.folder / "w.gr", self.folder / "w.rch").close()
         with domethyme.Hierarchy(self.folder / "w.rch", network=self.folder / "w") as hierarchy:
             found = hierarchy.match([*self.along(0.0001, 0.0005, 0.0009), *far])
-        self.assertEqual([way.points for way in found.matchings], [[0, 1, 2], [3, 4, 5]])
-
-    def test_tidy(self):
-        trace = self.along(0.0001, 0.0002, 0.0006, 0.0007, 0.0012)
-        self.assertEqual(self.hierarchy.match(trace, tidy=True).matchings[0].points, [0, 2, 4])
-        self.assertEqual(self.hierarchy.match(trace, [0, 9, 12, 20, 15 + 9], tidy=True).matchings[0].points, [0, 2, 4])
-        self.assertEqual(self.hierarchy.match(trace, [0, 9, 12, 14, 16], tidy=True).matchings[0].points, [0, 2])
+            self.assertEqual([way.points for way in found.matchings], [[0, 1, 2], [3, 4, 5]])
+            # (as many places in a row to which no way leads are left out)
+            for count, wanted in ((3, [[0, 1, 5]]), (4, [[0, 1], [2, 3, 4, 5]])):
+                trace = [*self.along(0.0001, 0.0005), *([*far, far[0]][:count]), *self.along(0.0009)]
+                self.assertEqual([way.points for way in hierarchy.match(trace).matchings], wanted)
 
     def test_arguments_that_are_refused(self):
         for words, says in [
@@ -127,6 +139,82 @@ class VillageTests(ToolCase):
                            ("lon,lat,seconds\n0,0,2\n0,0,1\n", "don't fall"), ("lon,lat,deviation\n0,0,\n0,0,0\n", "above 0")]:
             self.write("bad.csv", text)
             self.assert_refused("match", "v", "v.rch", "bad.csv", says=says)
+
+
+@drawn(300)
+@given(st.data())
+def test_places_that_decide(data):
+    """What is left out as tidy, where a gap of time is, and each k-th place are the model's."""
+    count = data.draw(st.integers(2, 12))
+
+    def some(*values):
+        return data.draw(st.lists(st.sampled_from(values), min_size=count, max_size=count))
+
+    places = [(9.5 + 2.7e-5 * step, 0.0) for step in itertools.accumulate(some(0, 1, 2, 5, 9, 10, 11, 20))]
+    seconds = [*itertools.accumulate(some(0, 1, 4, 5, 6, 6, 60, 61, 100, 700))] if data.draw(st.integers(0, 3)) else []
+    words, is_tidy, gaps = some("", "1.5", "5", "10"), data.draw(st.booleans()), data.draw(st.sampled_from(["split", "ignore"]))
+    query = {"radiuses": ";".join(words), "timestamps": ";".join(map(str, seconds)), "gaps": gaps, "tidy": str(is_tidy).lower()}
+    request = Request("match", places, query)
+    with contextlib.suppress(Ambiguous):
+        wanted = model_matching.parts(request)
+        matcher = Matcher(None, None, None, Trace(places, seconds or None, model_matching.deviations(request), [None] * count))
+        parts = matcher._parts(gaps == "split", matcher._tidied() if is_tidy else [*range(count)])
+        assert parts == wanted
+        for part in parts:
+            assert matcher._thinned(part) == model_matching.thinned(request, part)
+
+
+@pytest.fixture(scope="module")
+def ladder(tmp_path_factory):
+    """Two streets of five blocks, 13 m apart, with rungs between, each of another weight and one of one way; and its hierarchy."""
+    places = [(0.001 * (node // 2), 0.00012 * (node % 2)) for node in range(12)]
+    arcs = []
+    for way, step in enumerate([*((node, node + 2) for node in range(10)), *((node, node + 1) for node in range(0, 12, 2))], 1):
+        line = tuple(places[node] for node in step)
+        figures = 1200 * (7 * way % 11 + 2 + 8 * (way < 11)), 0.0, round(metres_between(*line), 2)
+        arcs += [Arc(*step[::turn], *figures, line[::turn], way) for turn in ((1, -1) if way != 13 else (1,))]
+    roads, prefix = Network([Node(*place) for place in places], arcs), tmp_path_factory.mktemp("ladder") / "net"
+    write_network(Drawn(roads, roads, False), prefix)
+    with domethyme.Hierarchy(f"{prefix}.rch", network=prefix) as hierarchy:
+        yield roads, hierarchy
+
+
+@drawn(250)
+@given(data=st.data())
+def test_ways_on_a_ladder(ladder, data):
+    """The points of each way, their places, its weight and its confidence are the model's, by all ways through all states."""
+    roads, hierarchy = ladder
+    count, one_of = data.draw(st.sampled_from([2, 3, 4, 4, 5, 6, 6])), lambda *values: data.draw(st.sampled_from(values))
+    steps = [one_of(5, 7, 9, 12, -6) for _ in range(count - 1)]
+    for at in data.draw(st.sets(st.integers(0, count - 2), max_size=(count - 2) // 2)):
+        steps[at] = one_of(-0.3, -0.5, -0.8, -1.5)  # (fewer than half, so each place decides)
+    east = itertools.accumulate(steps, initial=one_of(-1, 0, 2, 9))
+    places = [(1e-4 * each, 1e-5 * (one_of(0, 0, 12) + data.draw(st.integers(-5, 5)))) for each in east]
+    words = [one_of("", "2", "3", *(("8", "20", "45") if count == 2 else ())) for _ in places]
+    bearings = [one_of("", "90,60", "270,160") for _ in places]
+    request = Request("match", places, {"radiuses": ";".join(words), "bearings": ";".join(bearings)})
+    with contextlib.suppress(Ambiguous):
+        wanted = model_matching.ways(roads, request)
+        found = hierarchy.match(places, deviation=model_matching.deviations(request), bearings=request.bearings()).matchings
+        for way, options in zip(found, wanted, strict=True):
+            assert any(is_way(way, option) for option in options)
+
+
+@pytest.mark.parametrize("east, count", [(0.0089, 1), (0.0091, 0)])
+def test_the_longest_way(tmp_path, east, count):
+    """From a street to the one beside it, which are joined in the east: one of some 2 km at most, but for the 33 m between both."""
+    with prepared([(0.0, 0.0), (0.0, 0.0003)], [Road(0, 1, 7, 7, ((east, 0.0), (east, 0.0003)))], tmp_path / "net") as hierarchy:
+        assert len(hierarchy.match([(0.0, 0.0), (0.0, 0.0003)]).matchings) == count
+
+
+def is_way(found, way):
+    """Whether a way has the points of the model's, leads by their places, and weighs as much."""
+    if found.points != way.numbers or abs(found.confidence - way.confidence) > 1e-3:
+        return False
+    rows = zip(found.matched.places, way.places, strict=True)
+    off = [(math.dist((place.lon, place.lat), point.place), abs(place.metres - point.metres)) for place, point in rows]
+    weight = sum(part[3] for leg in way.legs for part in leg)
+    return all(degrees < 1e-6 and metres < 0.2 for degrees, metres in off) and found.directions.weight == weight
 
 
 def drawn_leg(draw, weights):

@@ -15,11 +15,12 @@ ROADS, DETOUR, LEFT_OUT = 8, 2000, 3
 MOST, EQUAL, NEAR, METRES = 3000, 1e-9, 2e-3, 1e-3
 
 class Way(NamedTuple):
-    """Points of the trace by number, where they are on roads, and the legs between."""
+    """Points of the trace by number, where they are on roads, the legs between, and the mean probability of these states."""
 
     numbers: list[int]
     places: list[SnappedPoint]
     legs: list[list[Part]]
+    confidence: float
 
 
 def deviations(request: Request) -> list[float]:
@@ -37,8 +38,10 @@ def ways(network: Network, request: Request) -> list[list[Way]]:
                 best = max(density for _, density in sequences)
                 if any(EQUAL < best - density < NEAR for _, density in sequences):
                     raise Ambiguous
+                shares = [(points, math.exp(density - best)) for points, density in sequences]
                 found.append([
-                    way(network, request, part, numbers, points) for points, density in sequences if best - density <= EQUAL
+                    way(network, request, part, numbers, points, confidence(shares, points))
+                    for points, density in sequences if best - density <= EQUAL
                 ])
             left = [number for number in left if number > numbers[-1]]
     return found
@@ -168,11 +171,19 @@ def chain(network: Network, request: Request, numbers: Sequence[int]) -> tuple[l
     return taken, found
 
 
-def way(network: Network, request: Request, part: Sequence[int], taken: Sequence[int], points: Sequence[SnappedPoint]) -> Way:
+def confidence(shares: Sequence[tuple[list[SnappedPoint], float]], chosen: Sequence[SnappedPoint]) -> float:
+    """The mean probability of the chosen states, by all ways and their densities."""
+    whole, steps = sum(share for _, share in shares), enumerate(chosen)
+    return sum(share for at, point in steps for points, share in shares if points[at] == point) / whole / len(chosen)
+
+
+def way(
+    network: Network, request: Request, part: Sequence[int], taken: Sequence[int], points: Sequence[SnappedPoint], trust: float
+) -> Way:
     """The way by some states. Raises Ambiguous where other points are to be placed on it, and where a leg has several shortest paths."""
     if len(part) > len(taken):
         raise Ambiguous
-    found, here, before = Way([taken[0]], [points[0]], []), points[0], points[0]
+    found, here, before = Way([taken[0]], [points[0]], [], trust), points[0], points[0]
     for other, point in zip(taken[1:], points[1:]):
         metres, back = ahead(network, here, point), ahead(network, before, point)
         is_standing = metres is not None and metres < 0 and back is not None and back > -STAND * deviations(request)[other]
