@@ -24,6 +24,7 @@ from tool_case import VILLAGE, ToolCase
 import domethyme
 from domethyme import tours
 from domethyme.network import alternatives, directions
+from domethyme.network.bearings import BearingRange
 from domethyme.network.legs import find_leg
 from domethyme.protocol import FAR
 
@@ -40,8 +41,9 @@ def test_as_the_model(data: Any) -> None:
     radiuses = data.draw(st.lists(st.sampled_from([None, 60.5, math.inf]), min_size=len(spots), max_size=len(spots)))
     if data.draw(st.integers(0, 4)) == 0:
         radiuses[data.draw(st.integers(0, len(spots) - 1))] = data.draw(st.sampled_from([0, 2]))
+    words = data.draw(st.sampled_from([(), ("--attribution", "© the town")]))
     with tempfile.TemporaryDirectory() as folder:
-        write_network(made, pathlib.Path(folder) / "net")
+        write_network(made, pathlib.Path(folder) / "net", *words)
         hierarchy = domethyme.Hierarchy(f"{folder}/net.rch", network=f"{folder}/net")
         options: Any = {"bearings": bearings, "radiuses": radiuses, "approaches": approaches, "snapping": data.draw(st.sampled_from(["default", "any"]))}
         try:
@@ -74,6 +76,7 @@ def test_as_the_model(data: Any) -> None:
             stops = sorted({0, *data.draw(st.sets(st.integers(0, len(spots) - 1))), len(spots) - 1})
             found = hierarchy.directions(spots, waypoints=stops, **options)
             check_directions(made.roads, found, points, legs, stops)
+            assert found is None or found.attribution == "".join(words[1:])
             check_straight(made.roads, hierarchy.directions(snapped, continue_straight=True), points)
         for setting in SETTINGS:
             check_tour(hierarchy.tour(snapped, **dict(zip(("roundtrip", "source", "destination"), setting))), weights, *setting)
@@ -191,26 +194,49 @@ def check_alternative(net: Network, arrays: Any, leg: Any, sides: list[dict[int,
         assert leg.weight - total >= plateau or back[node] == leg.weight - total
 
 
-@pytest.mark.parametrize("middle, wanted", [
-    (500, [2000, 2200]), (400, [2000, 2200]), (399, [2000]),
+@pytest.mark.parametrize("first, middle, long, wanted", [
+    (1500, 500, 500, [2000, 2100, 2200, 2500]), (1501, 400, 501, [2000, 2200]), (1500, 399, 501, [2000, 2100]),
 ])
-def test_alternatives_by_hand(tmp_path: pathlib.Path, middle: int, wanted: list[int]) -> None:
-    """Beside a way of 2000 one of 2200, whose middle is a plateau: a fifth of 2000 is enough. A way of 2501 is too long."""
-    ways = [[1000, 1000], [1100 - middle // 2, middle, 1100 - middle + middle // 2], [1000, 501, 1000]]
+def test_alternatives_by_hand(tmp_path: pathlib.Path, first: int, middle: int, long: int, wanted: list[int]) -> None:
+    """Beside a way of 2000 one of 2200, whose middle is a plateau: a fifth of 2000 is enough. A way of 2501 is too long. A fork
+    leaves the first way behind 1500: so much they may have in common."""
+    ways = [[first, 2000 - first], [1100 - middle // 2, middle, 1100 - middle + middle // 2], [1000, long, 1000], [100, 400, 100]]
     nodes, roads = [(0.0, 0.0), (0.02, 0.0)], []
     for number, weights in enumerate(ways):
         inner = [(0.02 * (place + 1) / len(weights), 0.002 * number) for place in range(len(weights) - 1)]
-        line = [0, *range(len(nodes), len(nodes) + len(inner)), 1]
+        line = [0 if number < 3 else 2, *range(len(nodes), len(nodes) + len(inner)), 1]
         nodes += inner
         roads += [Road(*step, weight, None) for step, weight in zip(itertools.pairwise(line), weights)]
     with prepared(nodes, roads, tmp_path / "net") as hierarchy:
         ends = [(0.0, 0.0), (0.02, 0.0)]
         assert [each.weight for each in hierarchy.alternatives(ends)] == wanted
-        assert [each.weight for each in hierarchy.alternatives(ends, 0)] == wanted[:1]
+        for count in (0, 1):
+            assert [each.weight for each in hierarchy.alternatives(ends, count)] == wanted[: 1 + count]
         assert hierarchy.alternatives(ends[::-1]) == []
         for some, count in ((ends[:1], 3), (ends, 4), (ends, True)):
             with pytest.raises(ValueError):
                 hierarchy.alternatives(some, count)
+
+
+@pytest.mark.parametrize("middle, away, inside, outside", [
+    (80, 10, [70, 90], [69, 91]), (355, 10, [345, 5], [344, 6]), (5, 10, [355, 15], [16]), (360, 0, [0], [1]), (90, 180, [270], []),
+])
+def test_ranges_of_bearings(middle: int, away: int, inside: list[int], outside: list[int]) -> None:
+    """They end with the degrees that they name, also beyond north."""
+    wanted = BearingRange(middle, away)
+    assert [*filter(wanted.contains, [*inside, *outside])] == inside
+
+
+def test_roads_of_a_direction_and_a_side(tmp_path: pathlib.Path) -> None:
+    """The nearest road eastwards is found beyond 70 northwards. A place beyond a sharp bend to the left is on its right."""
+    steps = [((number * 1e-5, 0.0), (number * 1e-5, 0.001)) for number in range(70)]
+    steps += [((0.0, 0.002), (0.001, 0.002)), ((0.0, 0.01), (0.0017, 0.0101))]
+    roads = [Road(2 * row, 2 * row + 1, 9, 9, ((0.002, 0.01),) if row == 71 else ()) for row in range(len(steps))]
+    with prepared([place for step in steps for place in step], roads, tmp_path / "net") as hierarchy:
+        east, bend = hierarchy.network.points_on_roads(
+            [(0.0003, 0.0005), (0.0021, 0.01002)], bearings=[(90, 5), None], approaches=[None, "curb"]
+        )
+        assert (east.lat, {*east.exits}, {*bend.exits}, {*bend.entries}) == (0.002, {141}, {143}, {142})
 
 
 def least_weight(legs: Any) -> int | None:
@@ -230,20 +256,26 @@ def check_directions(roads: Any, found: Any, points: Any, legs: Any, stops: list
         fits = [
             whole for choice in itertools.product(*options[first:last]) for whole in [[*itertools.chain(*choice)]]
             if not difference({"seconds": leg.seconds, "metres": leg.metres}, in_seconds(figures(roads, *choice)))
-            and is_same_line(leg.line, leg_line(roads, points[first], whole, points[last]), 1.5e-6)
+            and leg.arcs == len(whole) and is_same_line(leg.line, leg_line(roads, points[first], whole, points[last]), 1.5e-6)
         ]
         assert fits, (leg, options[first:last])
-        assert [step["name"] for step in leg.steps] in [
-            [name for name, _ in itertools.groupby(roads.arcs[arc].name for arc, *_ in whole)] for whole in fits
-        ]
+        assert any(are_steps(roads, leg.steps, whole) for whole in fits)
     one_each = [choices[0] for choices in options]
     if all(len(choices) == 1 for choices in options):
         assert not difference({"seconds": found.seconds, "metres": found.metres}, in_seconds(figures(roads, *one_each)))
-    feature = found.geojson()
-    assert feature == found.__geo_interface__
+    feature, line = found.geojson(), [point for point, _ in itertools.groupby(point for leg in found.legs for point in leg.line)]
+    assert feature == found.__geo_interface__ and found.line == (line if len(line) > 1 else line * 2)
     if feature["geometry"]["type"] == "LineString":
         assert feature["geometry"]["coordinates"] == [list(point) for point in found.line]
-    assert feature["properties"]["weight"] == found.weight and found.steps == [step for leg in found.legs for step in leg.steps]
+    more = {"attribution": found.attribution} if found.attribution else {}
+    assert feature["properties"] == {"weight": found.weight, "seconds": found.seconds, "metres": found.metres, **more}
+    assert found.steps == [step for leg in found.legs for step in leg.steps]
+
+
+def are_steps(roads: Any, found: Any, parts: Any) -> bool:
+    """Whether steps are the streets of some parts, with their figures."""
+    names = itertools.groupby(parts, lambda part: roads.arcs[part[0]].name)
+    return not difference(found, [{"name": name, **in_seconds(figures(roads, [*some]))} for name, some in names])
 
 
 def check_straight(roads: Any, found: Any, points: Any) -> None:
