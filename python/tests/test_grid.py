@@ -17,9 +17,10 @@ from reach_case import MILLI, Road, arrays, network
 from tool_case import ToolCase
 
 from domethyme.network import grid, parallel, zoom_levels
+from domethyme.network.geo import metres_between
 from domethyme.network.indexes import bounding_box, edge_grid, edge_segments, node_degrees, node_grid
 from domethyme.network.snapping import RoadIndex
-from domethyme.network.sphere import nearest_on_segments
+from domethyme.network.sphere import great_circle_metres, nearest_on_segments, unit_vectors
 from domethyme_service.tiles import Tiles
 
 
@@ -107,7 +108,7 @@ def test_steps_of_all_lengths(data):
     place = data.draw(st.integers(-1800, 1800)) / 10, data.draw(st.integers(-890, 890)) / 10
 
     def near():
-        degrees = data.draw(st.sampled_from([1e-5, 1e-3, 0.08, 0.15, 3, 40]))
+        degrees = data.draw(st.sampled_from([1e-5, 1e-3, 0.08, 0.15, 3, 40, 175]))
         east, north = (degrees * data.draw(st.integers(-20, 20)) / 20 for _ in range(2))
         return place[0] + east, max(-90.0, min(90.0, place[1] + north))
 
@@ -119,6 +120,9 @@ def test_steps_of_all_lengths(data):
         assert abs(away - wanted) <= most and 0 <= share <= 1
         found = sphere.interpolate(*step, share)
         assert abs(sphere.metres_between(place, found) - wanted) <= most, (step, share, at)
+    far = place[0] + 180, -place[1]
+    both = metres_between(*place, *far), float(great_circle_metres(unit_vectors(*place), unit_vectors(*far)))
+    assert both == pytest.approx([sphere.EARTH_RADIUS * math.pi] * 2)
 
 
 def test_steps_by_kind_and_cell(monkeypatch):

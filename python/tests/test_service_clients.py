@@ -12,7 +12,7 @@ from model import answers
 from model.request import Request
 from test_service_osrm import HIGH, OsrmCase
 
-from domethyme.network.polyline import encode_polylines
+from domethyme.network.polyline import decode_polyline, encode_polylines
 
 # By High Street and north by Mill Road to a roundabout, which Hill Road leaves.
 START, END, BETWEEN = [0.0003, 0.00001], [0.007, 0.00203], [0.004, 0.0]
@@ -47,6 +47,15 @@ REQUESTS = [
     ("/route/v1/driving/0.00030000000000000003,1e-5;7.7e-3,-.00002", {}),
     (f"/route/v1/car/{urllib.parse.quote(HIGH, safe='')}?skip_waypoints=true", {"Connection": "Close"}),
 ]
+
+
+def test_lines_of_places() -> None:
+    """The example of the format, and the corners of the earth."""
+    example = [(-120.2, 38.5), (-120.95, 40.7), (-126.453, 43.252)]
+    assert decode_polyline("_p~iF~ps|U_ulLnnqC_mqNvxq`@", 5) == example
+    for digits, line in ((5, example), (6, example), (6, [(-180.0, -90.0), (180.0, 90.0), (-0.000001, 0.0), (0.0, -0.000001)])):
+        text, = encode_polylines(line, digits, np.array([0]), np.array([len(line)]))
+        assert decode_polyline(text, digits) == decoded(text, "polyline6" if digits == 6 else "polyline") == line
 
 
 def request_of(path: str) -> Request:

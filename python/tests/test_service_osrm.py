@@ -51,6 +51,7 @@ class RequestTests(OsrmCase):
             ("/route/v1/car/0,0;0.5,0.5", ("place 1, 0.5,0.5 (LON,LAT)", "The roads are from -0.0055,-0.0010 to ", "within 5000 m")),
             ("/route/v1/car/0,0;47.1,120", ("place 1 is 47.1,120: longitude first", "is it LAT,LON?")),
             (f"/route/v1/car/{HIGH};0.020,0.005", ("no route from place 1 to place 2",)),
+            (f"/route/v1/car/{HIGH};0.020,0.005?continue_straight=true", ("no route from place 1 to place 2",)),
         ):
             message = self.ask(path)[1]["message"]
             for text in says:

@@ -276,9 +276,17 @@ class Networks(SharedCase):
         points = [(-0.0016667, 0.0), (9.5, 47.1878542)]
         self.assertEqual(geo.format_linestring(points), "LINESTRING (-0.0016667 0.0000000, 9.5000000 47.1878542)")
         self.assertEqual(geo.parse_linestring(geo.format_linestring(points)), points)
+        self.assertEqual(geo.parse_linestring(" LineString(1 2,-3  4.5)\n"), [(1.0, 2.0), (-3.0, 4.5)])
         bodies = ("(1 2)", "(1_0 2, 3 4)", "(1 2, 3)", "(1 2, 3 4", "EMPTY", "(1 2, 3 4) 5", "(1 2, 3 x)")
         for text in ("", "POINT (1 2, 3 4)", *(f"LINESTRING {body}" for body in bodies)):
             self.assert_fault(f"f, row 7: WKT {text!r} is no line", geo.parse_linestring, text, "f", 7)
+
+    def test_lines_over_the_180th_meridian(self):
+        """Each part ends where the line crosses it, and is more than a point."""
+        west, east, cut = (179.9, 10.0), (-179.7, 14.0), [(-180.0, 11.0), (180.0, 11.0)]
+        self.assertEqual(geo.split_at_antimeridian([west, east, west]), [[west, cut[1]], [cut[0], east, cut[0]], [cut[1], west]])
+        self.assertEqual(geo.split_at_antimeridian([(180.0, 5.0), (-179.9, 6.0)]), [[(-180.0, 5.0), (-179.9, 6.0)]])
+        self.assertEqual(geo.split_at_antimeridian([(179.9, 5.0), (180.0, 6.0)]), [[(179.9, 5.0), (180.0, 6.0)]])
 
 
 class Program(SharedCase):
