@@ -270,6 +270,8 @@ def check_directions(roads: Any, found: Any, points: Any, legs: Any, stops: list
     more = {"attribution": found.attribution} if found.attribution else {}
     assert feature["properties"] == {"weight": found.weight, "seconds": found.seconds, "metres": found.metres, **more}
     assert found.steps == [step for leg in found.legs for step in leg.steps]
+    seconds = "" if found.seconds is None else f", {found.seconds:g} s"
+    assert repr(found) == f"<Directions by {len(points)} places: weight {found.weight}, {found.metres:g} m{seconds}>"
 
 
 def are_steps(roads: Any, found: Any, parts: Any) -> bool:
@@ -373,6 +375,7 @@ class FramesTests(ToolCase):
         assert hierarchy.table(places, frame).columns.tolist() == ["depot", "shop", "farm"]
         assert hierarchy.table(frame, missing=math.inf).to_numpy().tolist() == np.where(rows < 0, math.inf, rows).tolist()
         assert hierarchy.directions(frame) == hierarchy.directions(places) == hierarchy.directions(np.array(places))
+        assert hierarchy.directions(places[:1] * 2).line == places[:1] * 2
         for wrong, says in (
             (places[:1], "two places or more"), ([(1, 2, 3)], "rows (lon, lat)"), (frame.rename(columns={"lon": "x"}), "columns lon and lat"),
             (frame.assign(lon=pandas.array([9.5, None, 9.5], "Float64")), "some are missing"),

@@ -71,7 +71,7 @@ def test_what_notebooks_and_others_know(village):
         picture = shown._repr_html_()
         assert picture.startswith("<svg") and what in picture and "© OpenStreetMap contributors" in picture
     for said in (repr(directions), repr(directions.legs)):
-        assert f"weight {directions.weight}, {directions.metres:g} m, {directions.seconds:g} s" in said and len(said) < 120
+        assert f"weight {directions.weight}" in said and len(said) < 120
     with domethyme.Hierarchy(hierarchy.path) as bare:
         assert bare.route(0, 5)._repr_html_() is None and not hasattr(bare.route(0, 5), "__geo_interface__")
         with pytest.raises(ValueError, match="no network to draw on"):
