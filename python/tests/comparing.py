@@ -28,7 +28,7 @@ class Direction(NamedTuple):
 
     def differs(self, found: Any) -> bool:
         is_whole = isinstance(found, int) and 0 <= found < 360
-        return not is_whole or abs((found - self.degrees + 180) % 360 - 180) > 0.7
+        return not is_whole or abs((found - self.degrees + 180) % 360 - 180) > 0.8
 
 
 class Intersection(NamedTuple):
@@ -151,7 +151,7 @@ def unwrapped(line: Iterable[Point]) -> list[Point]:
 
 
 def tolerance_of(form: str) -> float:
-    return 6e-6 if form == "polyline" else 7e-7
+    return 6.5e-6 if form == "polyline" else 8.5e-7
 
 
 def decoded(found: Any, form: str) -> list[Point] | None:

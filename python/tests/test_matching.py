@@ -9,6 +9,7 @@ import pickle
 import random
 import re
 from types import SimpleNamespace
+from unittest import mock
 
 import numpy as np
 import pytest
@@ -41,6 +42,7 @@ class VillageTests(ToolCase):
     def along(self, *east, north=0.0):
         return [(lon, north) for lon in east]
 
+    @mock.patch("domethyme.network.matching.STEPS_AT_ONCE", 2)
     def test_a_drive_along_a_street(self):
         """Each place is where it was drawn, some metres beside the street; the legs sum to the way from the first to the last."""
         for step, stride in ((0.0001, 3), (0.0004, 1)):
@@ -89,8 +91,6 @@ class VillageTests(ToolCase):
         trace, times = self.along(*(0.0004 * number + 0.0001 for number in range(8))), [0, 5, 10, 15, 100, 105, 110, 115]
         for gaps, wanted in (("split", [[0, 1, 2, 3], [4, 5, 6, 7]]), ("ignore", [list(range(8))])):
             self.assertEqual([way.points for way in self.hierarchy.match(trace, times, gaps=gaps).matchings], wanted)
-        self.assertEqual([way.points for way in self.hierarchy.match(trace, [4 * each for each in times]).matchings], [[0, 1, 2, 3], [4, 5, 6, 7]])
-        self.assertEqual(len(self.hierarchy.match(trace, [20 * number for number in range(8)]).matchings), 1)
         trace[2] = NO_ROAD
         (way,), places = self.hierarchy.match(trace)
         self.assertEqual((way.points, places[2]), ([0, 1, 3, 4, 5, 6, 7], None))

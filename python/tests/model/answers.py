@@ -15,7 +15,7 @@ from .steps import steps
 
 # The roundings of degrees, metres and seconds, of metres to a point as it is shown, and of probabilities; and up to how many
 # alternatives an answer is compared with each.
-DEGREES, METRES, SECONDS, STANDING, TRUST, MOST = 7e-7, 0.0065, 0.0015, 0.2, 1e-3, 256
+DEGREES, METRES, SECONDS, STANDING, TRUST, MOST = 8.5e-7, 0.0065, 0.0015, 0.2, 1e-3, 256
 UNITS = {"duration": 1000, "distance": 100}
 TEXT = Holds("a text", lambda value: isinstance(value, str))
 SHAPES = {"true": ("Polygon", "MultiPolygon"), "false": ("LineString", "MultiLineString")}

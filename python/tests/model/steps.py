@@ -84,7 +84,7 @@ def intersection(network: Network, leg: Sequence[Part], number: int, place: Poin
 
 
 def near(place: Point) -> list[Near]:
-    return [Near(place[0], 7e-7), Near(place[1], 7e-7)]
+    return [Near(place[0], 8.5e-7), Near(place[1], 8.5e-7)]
 
 
 def begins_of(network: Network, leg: Sequence[Part], turns: Sequence[float]) -> list[int]:
