@@ -188,7 +188,8 @@ class ToolTests(ToolCase):
         self.assertEqual(pairs, f"c network net: 3 nodes, 5 arcs, checksum {checksum}\np aux sp p2p 1\nq 1 3\n")
         origin = belonging.Origin.of(pairs.splitlines(True)[0].encode())
         self.assertEqual(origin, ("net", 3, 5, checksum))
-        self.assertEqual(belonging.Origin.of(b"c network net: 3 nodes, 5 arcs\n"), ("net", 3, 5, None))
+        for origin in (("net", 3, 5, None), ("net", 3, None, None), ("a: 5 nodes, b", 0, 0, None), ("out/\xe9", 7, 9, "0" * 8)):
+            self.assertEqual(belonging.Origin.of(f"c {belonging.Origin(*origin).comment}\r\n".encode()), origin)
         self.assertEqual(belonging.Origin("a\nb \udcff", 3).comment, "network a b \ufffd: 3 nodes")
         for line in (b"c network", b"c network net: x nodes", b"c net: 3 nodes", b"q 1 2"):
             self.assertIsNone(belonging.Origin.of(line))
@@ -219,9 +220,12 @@ class ToolTests(ToolCase):
         self.run_tool("to_network", "nodes.csv", "slow.csv", "slow")
         for name in ("slow", "net"):
             self.run_tool("nearest", name, "trips.csv", "-o", f"{name}.pairs")
+        self.write("slow.pairs", (self.folder / "slow.pairs").read_text() + "c another comment\n")
+        self.write("older.pairs", "c network slow: 3 nodes, 5 arcs\np aux sp p2p 1\nq 1 3\n")
         says = "slow.pairs: is of the network slow, and net.net has other arcs: run `nearest` again"
         self.assert_refused("route_many", "net.rch", "slow.pairs", "out", says=says)
-        self.run_tool("route_many", "net.rch", "net.pairs", "out")
+        for name in ("net", "older"):  # (the older ones don't say of which arcs they are)
+            self.run_tool("route_many", "net.rch", f"{name}.pairs", "out")
         shutil.copy(self.folder / "net.rch", self.folder / "alone.rch")
         self.assert_refused("route_many", "alone.rch", "slow.pairs", "out", "--network", "net", says=says)
 

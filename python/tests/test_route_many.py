@@ -220,9 +220,9 @@ def random_text(draw):
     """A text of a few lines, many of them right and some of any other kind, with any of the ways to end and to part."""
     pairs = draw.randint(0, 5)
     lines = [draw.choice(KINDS) for _ in range(pairs)]
-    right = sum(line.split(" ")[0].split("\t")[0] == "q" or line.startswith(" q") for line in lines)
-    problem = draw.choice(PROBLEMS).format(right if draw.random() < 0.9 else draw.randint(0, 5))
     before = [draw.choice(["c", "", " c x", "q 1 2", "x"])] if draw.random() < 0.2 else []
+    right = sum(line.split(" ")[0].split("\t")[0] == "q" or line.startswith(" q") for line in [*before, *lines])
+    problem = draw.choice(PROBLEMS).format(right if draw.random() < 0.9 else draw.randint(0, 5))
     ends = [draw.choice(["\n"] * 9 + ["\r\n"]) for _ in range(pairs + 3)]
     text = "".join(line + end for line, end in zip([*before, problem, *lines], ends))
     return (text if draw.random() < 0.8 else text[:-1]).encode("latin-1")
@@ -269,8 +269,8 @@ class OneMachineTests(RouteManyCase):
 
     def test_arguments_that_are_refused(self):
         words = ["network.rch", "pairs", "out"]
-        more = [["--jobs", "0"], ["--pairs-per-part", "1.5"], ["--jobs", "2", "--split-only"]]
-        outs = [["network.rch", "pairs", out] for out in ["-", "/dev/null", "new/", ".", "pairs"]]
+        more = [["--jobs", "0"], ["--pairs-per-part", "1.5"], ["--pairs-per-part", "1000000000"], ["--jobs", "2", "--split-only"]]
+        outs = [["network.rch", "pairs", out] for out in ["-", "/dev/null", "new/", ".", "./pairs", "network.rch"]]
         for wrong in [words[:2], *([*words, *each] for each in more), *outs]:
             with self.subTest(words=wrong):
                 self.run_tool("route_many", *wrong, status=2)
@@ -341,7 +341,7 @@ class PartsFolderTests(RouteManyCase):
         parts_folder.mkdir()
         parts_folder.chmod(0o777)
         self.refused("isn't a folder that you alone may write to")
-        parts_folder.chmod(0o755)
+        parts_folder.chmod(0o775)
         if os.geteuid() == 0:
             os.chown(parts_folder, 65534, 65534)
             self.refused("isn't a folder that you alone may write to")
@@ -374,6 +374,7 @@ class RefusalTests(RouteManyCase):
             (f"p aux sp p2p 250\n{pairs}", "ArcCount line 201"), (f"p aux sp p2p 0\n{pairs}", "ArcCount line 2"),
             ("p aux sp p2p 201\n" + "q 1 2\n" * 150 + "q 1 301\n" + "q 1 2\n" * 51, "NodeRange line 152"),
             ("", "NoProblemLine line 0"), ("q 1 2\np aux sp p2p 1\n", "NoProblemLine line 1"),
+            ("q 1 2\np aux sp p2p 2\nq 2 1\n", "NoProblemLine line 1"),
             ("p aux sp p2p 1\nq 1 2\np aux sp p2p 1\n", "SecondProblemLine line 3"),
             ("p aux sp p2p 134217729\nq 1 2\n", "TooManyArcs line 1"),
             (f"p aux sp p2p {'0' * 5000}{'9' * 5000}\nq 1 2\n", "TooManyArcs line 1"),
@@ -392,20 +393,24 @@ class RefusalTests(RouteManyCase):
         self.assert_answered()
 
     def test_first_fault_though_a_later_part_fails_first(self):
+        """And before an earlier part that fails for no fault of the input."""
         lines = ["p aux sp p2p 1000"] + ["q 1 2"] * 1000
         lines[120], lines[170] = "q 301 1", "q one 1"
         self.write("pairs", "\n".join(lines))
-        program = self.held_program()
-        self.hold("000002.pairs")
-        run = self.start_many("--jobs", 4, "--program", program)
-        self.until(lambda: "000003.pairs" in self.parts_begun())
-        failed = next(int(process) for process, _, part in self.begun() if part == "000003.pairs")
-        self.until(lambda: not is_running(failed))
-        self.release("000002.pairs")
-        self.assert_ends(run, 5)
-        self.assertEqual(self.said().splitlines()[:2], ["routecli: queries: NodeRange line 121", "  pairs:121: q 301 1"])
-        self.assert_untouched()
-        self.assertLess(len(self.parts_begun()), 20)  # (none of the 20 begins once one is known to have failed)
+        self.before.append(self.write("trouble", "").name)
+        for trouble, held, other in ((None, "000002.pairs", "000003.pairs"), ("exit 6", "000003.pairs", "000002.pairs")):
+            program = self.held_program(trouble)
+            self.write("begun", "")
+            self.hold(held)
+            run = self.start_many("--jobs", 4, "--program", program)
+            self.until(lambda: {held, other} <= {*self.parts_begun()})
+            failed = next(int(process) for process, _, part in self.begun() if part == other)
+            self.until(lambda: not is_running(failed))
+            self.release(held)
+            self.assert_ends(run, 5)
+            self.assertEqual(self.said().splitlines()[:2], ["routecli: queries: NodeRange line 121", "  pairs:121: q 301 1"])
+            self.assert_untouched()
+            self.assertLess(len(self.parts_begun()), 20)  # (none of the 20 begins once one is known to have failed)
 
     def test_hierarchies_that_are_refused(self):
         whole = (self.folder / "network.rch").read_bytes()
@@ -424,6 +429,14 @@ class RefusalTests(RouteManyCase):
         self.assertEqual(self.parts_begun().count("000000.pairs"), 1)
         self.assert_answered()
 
+    def test_a_status_that_the_program_does_not_have(self):
+        """And one that it has for a part alone."""
+        self.write("trouble", "")
+        said = f"{self.folder / 'held_program'} ended with status 9: something else"
+        for status, says in ((9, said), (5, "routecli refuses a part of the pairs, and takes them as a whole")):
+            program = self.held_program(trouble=f"echo something else >&2; exit {status}")
+            ended = self.many("--jobs", 2, "--program", program, "--restart", status=1)
+            self.assertEqual(ended.stderr, f"route_many: {says}\n")
 
 @pytest.fixture
 def part(tmp_path):
@@ -484,17 +497,22 @@ class TwoCallsTests(RouteManyCase):
     """Two calls at a time, and a second call that goes on with what the first has done."""
 
     def test_two_runs_into_one_out(self):
+        """By any name of OUT; and one that was killed has left its lock."""
+        (self.folder / "out.parts").mkdir()
+        self.write("out.parts/lock", "process 1 on another machine\n")
         program = self.held_program()
         self.hold("all")
         first = self.start_many("--jobs", 2, "--program", program)
         self.until(lambda: len(self.begun()) == 2)
         (self.folder / "link").symlink_to(self.folder)
-        for out in ["out", "link/out"]:
+        (self.folder / "also").symlink_to("out")
+        for out in ["out", "link/out", "also"]:
             for more in [[], ["--restart"], ["--split-only"]]:
                 ended = self.run_tool("route_many", "network.rch", "pairs", out, *more, status=1)
                 self.assertEqual(ended.stderr.count("\n"), 1)
                 self.assertIn(f"route_many: {out}: another run works on it: process {first.pid} on ", ended.stderr)
         (self.folder / "link").unlink()
+        (self.folder / "also").unlink()
         self.release("all")
         self.assert_ends(first)
         self.assert_answered()
@@ -523,6 +541,16 @@ class TwoCallsTests(RouteManyCase):
     def test_interrupted_and_gone_on_with(self):
         self.goes_on(signal.SIGINT)
 
+    def test_interrupted_before_the_cut(self):
+        (self.folder / "pairs").unlink()
+        os.mkfifo(self.folder / "pairs")
+        run = self.start_many("--jobs", 1)
+        with open(self.folder / "pairs", "wb"):  # (once it reads them)
+            run.send_signal(signal.SIGINT)
+            self.assert_ends(run, 130)
+        self.assertEqual(self.said(), "")
+        self.assert_untouched()
+
     def test_ended_by_sigterm_and_gone_on_with(self):
         self.goes_on(signal.SIGTERM)
 
@@ -549,13 +577,16 @@ class TwoCallsTests(RouteManyCase):
             {path: text for path, text in self.contents().items() if path.name != "lock"},
             {path: text for path, text in kept.items() if path.name != "lock"},
         )
+        for text in ("", "[]", "{}"):
+            plan = self.write("out.parts/plan.json", text).resolve()
+            self.assertEqual(self.many(status=1).stderr, f"route_many: {plan}: is no plan of route_many: --restart drops it\n")
         self.many("--jobs", 2, "--restart")
         self.assert_answered()
 
     def test_a_cut_that_was_not_finished_is_made_anew(self):
         drafts = f"drafts-{'0' * 32}"
         (self.folder / "out.parts" / drafts).mkdir(parents=True)
-        for name in ["000000.pairs", "000000.answers", "000077.answers", "whole.pairs", f"{drafts}/more"]:
+        for name in ["000000.pairs", "000077.answers", "1000000.pairs", "plan.json.x.new", "whole.pairs", f"{drafts}/more"]:
             self.write(f"out.parts/{name}", "r 1 1 0 0 1\n")
         self.many("--jobs", 2)
         self.assert_answered()
@@ -618,11 +649,13 @@ class CutTests(RouteManyCase):
         self.cut()
         self.answer(range(20))
         answers = self.folder.resolve() / "out.parts/000007.answers"
-        answers.write_bytes(answers.read_bytes()[:-1])
-        ended = self.many("--split-only", status=1)
-        problem = "has 49 lines for 50 pairs: remove it and give the same call again"
-        self.assertEqual(ended.stderr, f"route_many: {answers}: {problem}\n")
-        self.assertFalse((self.folder / "out").exists())
+        whole = answers.read_bytes()
+        for changed, count in ((whole[:-1], 49), (whole + b"n 1 2\n", 51)):
+            answers.write_bytes(changed)
+            ended = self.many("--split-only", status=1)
+            problem = f"has {count} lines for 50 pairs: remove it and give the same call again"
+            self.assertEqual(ended.stderr, f"route_many: {answers}: {problem}\n")
+            self.assertFalse((self.folder / "out").exists())
         answers.unlink()
         self.many("--jobs", 1)
         self.assert_answered()
