@@ -95,6 +95,9 @@ class HierarchyTests(ToolCase):
                 with self.assertLogs("domethyme.belonging", "WARNING") as logged:
                     belonging.compare(file.fileno(), "town.rch", net_file.read(str(self.folder / "town.net")))
                 self.assertRegex(logged.output[0], "town.rch: 5,000 of its [0-9,]+ links were compared with .*town.net: --compare-all")
+                with unittest.mock.patch.object(belonging, "MAX_COMPARED", links.Links.of(file.fileno(), "").size):
+                    with self.assertNoLogs("domethyme.belonging"):
+                        belonging.compare(file.fileno(), "town.rch", net_file.read(str(self.folder / "town.net")))
                 with self.assertRaisesRegex(domethyme.WrongHierarchy, FOREIGN):
                     belonging.compare(file.fileno(), "town.rch", arrays)
                 with self.assertRaisesRegex(domethyme.WrongHierarchy, FOREIGN):
@@ -283,8 +286,8 @@ CALLS = [
 
 
 @pytest.mark.parametrize("tool, words", CALLS, ids=[" ".join(words) for _, words in CALLS])
-def test_tools_use_what_they_have_compared(tmp_path, monkeypatch, capsys, tool, words):
-    """A network that takes the name of the one that was compared, a moment later, changes nothing."""
+def test_tools_use_what_they_have_compared(tmp_path, monkeypatch, capsys, caplog, tool, words):
+    """All links, where asked to; and a network that takes the name of the compared one, a moment later, changes nothing."""
     monkeypatch.chdir(tmp_path)
     for name, text in (("places.csv", PLACES), ("trips.csv", TRIPS), ("answers", "r 3 1 4000 2 3 2 1\n"), ("n.csv", NODES)):
         (tmp_path / name).write_text(text)
@@ -293,6 +296,14 @@ def test_tools_use_what_they_have_compared(tmp_path, monkeypatch, capsys, tool, 
     for nodes, name in (("n.csv", "net"), ("swapped.csv", "new")):
         subprocess.run([TOOLS / "to_network", nodes, "a.csv", name], check=True, capture_output=True)
     domethyme.prepare("net.gr", "net.rch", workers=1).close()
+    with monkeypatch.context() as patch:
+        patch.setattr(belonging, "MAX_COMPARED", 0)
+        for more in ([], ["--compare-all"]):
+            caplog.clear()
+            patch.setattr(sys, "argv", [tool.__name__.rpartition(".")[2], *words, *more])
+            tool.main()
+            assert ("links were compared" in caplog.text) == (not more)
+    capsys.readouterr()
     monkeypatch.setattr(sys, "argv", [tool.__name__.rpartition(".")[2], *words])
     compare, printed = belonging.compare, []
 

@@ -213,8 +213,9 @@ def has_line(geometry: Any, points: list[Point]) -> bool:
 def test_reach(data: Any) -> None:
     """What the tool writes is what the package returns of the same places."""
     made = data.draw(networks(["duration", "distance"], most=5, origins=[ORIGINS[0]]))
-    assume(made.roads.unit != "weight")
-    steps = [step for edge in made.roads.edges for step in itertools.pairwise(edge.line)]
+    edges = [edge for number, edge in enumerate(made.roads.edges) if not made.roads.is_ferry(number)]
+    assume(edges and made.roads.unit != "weight")
+    steps = [step for edge in edges for step in itertools.pairwise(edge.line)]
     where = data.draw(places(made.roads, 2))
     where = [place for place in where if min(nearest_on_segment(place, *step) for step in steps)[0] < 900]
     assume(where)
@@ -225,15 +226,17 @@ def test_reach(data: Any) -> None:
         write_network(made, path / "net", "--attribution", "© the town")
         write_rows(path / "places.csv", ["lon", "lat"], where)
         style: dict[str, Any] = data.draw(st.fixed_dictionaries({}, optional={
-            "generalize": st.sampled_from([5, 20]), "denoise": st.sampled_from([0.1, 0.5]), "colors": st.just(["ff0000", "00ff00"]),
-            "radius": st.sampled_from([950, 2000])}))
+            "generalize": st.sampled_from([0, 5, 20]), "denoise": st.sampled_from([0, 0.1, 0.5, 1]),
+            "colors": st.just(["ff0000", "00ff00"]), "radius": st.sampled_from([950, 2000])}))
         options = {name: ",".join(value) if name == "colors" else value for name, value in style.items()}
         words = f"--{option}", ",".join(map(str, limits)), "--shape", shape, "-o", path / "out", *itertools.chain(
             *((f"--{name}", value) for name, value in options.items()))
         run_tool("reach", path / "net", path / "net.rch", path / "places.csv", *words)
         hierarchy = domethyme.Hierarchy(path / "net.rch", network=path / "net")
         expected = hierarchy.within(where, shape=shape, **style, **{option: limits})
-        assert json.loads((path / "out").read_text()) == json.loads(json.dumps(expected))
+        found = json.loads((path / "out").read_text())
+        assert found == json.loads(json.dumps(expected))
+        assert [repr(each["properties"]["contour"]) for each in found["features"]] == [*map(repr, limits[::-1])]
         assert expected["attribution"] == "© the town"
 
 

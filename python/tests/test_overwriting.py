@@ -92,6 +92,9 @@ class OverwritingTests(ToolCase):
             ended = subprocess.run(words, stdin=trips, cwd=self.folder, capture_output=True, text=True)
         self.assertEqual((ended.returncode, self.contents()), (2, before))
         self.assertIn("trips.csv and standard input are one file: it would be overwritten", ended.stderr)
+        for output in (subprocess.PIPE, subprocess.DEVNULL):
+            words = [TOOLS / "nearest", "net", "trips.csv", "-o", "/dev/null", "--snapped", "/dev/null"]
+            subprocess.run(words, cwd=self.folder, stdout=output, check=True)
 
     def test_standard_output(self):
         """A pipe, by its names."""

@@ -51,8 +51,10 @@ class ReachToolTests(ReachCase):
         domethyme.write_graph(self.folder / "other.gr", [0, 1], [1, 0], [5, 5])
         domethyme.prepare(self.folder / "other.gr", self.folder / "other.rch", workers=1).close()
         self.assert_refused("reach", "town", "other.rch", "places.csv", says="nodes")
-        for words in (["--minutes", "5,5"], ["--minutes", "0"], ["--minutes", "5", "--metres", "5"], ["--denoise", "2"],
-                      ["--colors", "red,red,red"], ["--colors", "ff0000"], ["-o", "places.csv"]):
+        says = "places.csv, row 2: has no road within 0 m"
+        self.assert_refused("reach", "town", "town.rch", "places.csv", "--radius", "0", says=says)
+        for words in (["--minutes", "5,5"], ["--minutes", "5,10,7"], ["--minutes", "0"], ["--minutes", "5", "--metres", "5"],
+                      ["--denoise", "2"], ["--colors", "red,red,red"], ["--colors", "ff0000"], ["-o", "places.csv"]):
             self.run_tool("reach", "town", "town.rch", "places.csv", *words, status=2)
 
     def test_pictures(self):

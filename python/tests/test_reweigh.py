@@ -223,11 +223,18 @@ class ToolTests(ToolCase):
         self.assertEqual(arcs, wanted)
         self.assertEqual(said, ["reweigh: speeds.csv: 4 of 9 rows match nothing: 7, 8, 9, 10", "reweigh: new: 4 arcs changed, 0 closed, and 0 cut off by these"])
         self.assertEqual(self.arcs("map"), before)
-        said = self.reweighed("".join(f"{way},50\n" for way in range(100, 112)), "--unmatched", "rows")[0]
-        self.assertEqual(said[0], "reweigh: speeds.csv: 12 of 12 rows match nothing: 1, 2, 3, 4, 5, 6, 7, 8, 9, 10, ..")
+        for count, more in ((10, ""), (12, ", ..")):
+            line = self.reweighed("".join(f"{way},50\n" for way in range(100, 100 + count)), "--unmatched", "rows")[0][0]
+            self.assertEqual(line, f"reweigh: speeds.csv: {count} of {count} rows match nothing: 1, 2, 3, 4, 5, 6, 7, 8, 9, 10{more}")
         self.assertEqual((self.folder / "rows").read_text(), "".join(f"{row}\n" for row in range(1, 13)))
         for ending in ("gr", "net"):
             self.assertEqual((self.folder / f"new.{ending}").read_bytes(), (self.folder / f"map.{ending}").read_bytes())
+        domethyme.prepare(self.folder / "new.gr", self.folder / "new.rch", workers=1).close()
+        line = "reweigh: standard input: 1 of 2 rows match nothing: 2"
+        for speeds, rows, lines in (("13,20\n99,5\n", "2\n", [line]), ("13,20\n", "", [])):
+            said = self.run_tool("reweigh", "map", "-", "new", "--unmatched", "rows", given=speeds).stderr.splitlines()
+            self.assertEqual(((self.folder / "rows").read_text(), said[:-2]), (rows, lines))
+            self.assertIn("reweigh: new.rch is older than new.gr: run ", said[-1])
 
     def test_roads_of_one_way_in_one_place(self):
         """From 1 to 2 and from 3 to 4, and there and back by 7, points that nothing but their ids tells apart: rows of these match nothing,

@@ -1,5 +1,7 @@
 """Tests of cli.py, csv_tables.py and tables.py: files that are whole or as they were, tables, texts, and how tools end."""
+import errno
 import os
+import shutil
 import signal
 import stat
 import subprocess
@@ -60,9 +62,25 @@ class WholeFiles(SharedCase):
 
     def test_where_one_can_not_take_its_name_all_are_as_they_were(self):
         self.paths[1].write_text("old", encoding="utf-8")
-        with self.assertRaises(OSError), atomic_files.atomic_write_all(*self.paths) as opened:
-            opened[0].write("new")
-            (self.paths[2] / "folder").mkdir(parents=True)
+        for link in (os.link, mock.Mock(side_effect=OSError)):  # (file systems may have no links)
+            patched = mock.patch.object(os, "link", link)
+            with patched, self.assertRaises(OSError), atomic_files.atomic_write_all(*self.paths) as opened:
+                opened[0].write("new")
+                (self.paths[2] / "folder").mkdir(parents=True)
+            self.assertEqual(self.contents(), {self.paths[1]: b"old"})
+            shutil.rmtree(self.paths[2])
+
+    def test_what_can_not_be_written_is_named(self):
+        """All files that may have filled the disk, and one that is only to be read."""
+        for number in (errno.ENOSPC, errno.EDQUOT, errno.EFBIG, errno.EIO, errno.EPIPE):
+            with self.assertRaises(OSError) as caught, atomic_files.atomic_write_all(*self.paths):
+                raise OSError(number, "told")
+            name = None if number == errno.EPIPE else ", ".join(map(str, self.paths))
+            self.assertEqual((caught.exception.errno, caught.exception.filename), (number, name))
+        self.paths[1].write_text("old", encoding="utf-8")
+        with mock.patch.object(os, "access", return_value=False):
+            with self.assertRaisesRegex(PermissionError, "may not be written: .*second"):
+                self.write_all("new")
         self.assertEqual(self.contents(), {self.paths[1]: b"old"})
 
     def test_permissions_and_links_stay(self):
@@ -107,11 +125,17 @@ class Ends(SharedCase):
 
     def test_done(self):
         self.assertEqual(self.assert_ends(self.start("print('told')"), 0, ""), "told\n")
+        body = "for mode, text in (('w', 'é'), ('wb', b'!')):\n  with atomic_files.atomic_write('-', mode) as file: file.write(text)"
+        child = self.start(body, env={**os.environ, "PYTHONIOENCODING": "latin-1"})
+        self.assertEqual(self.assert_ends(child, 0, ""), "é!")
 
     def test_a_fault(self):
         self.assert_ends(self.start("raise cli.ToolError('is wrong', 'file', 3)"), 1, "tool: file, row 3: is wrong\n")
         told = "tool: standard input: two lines\n"
         self.assert_ends(self.start("raise cli.ToolError('two\\nlines', '-', status=5)"), 5, told)
+        others = [("MemoryError", "there isn't enough memory"), ("OSError('odd')", "odd"), ("OSError(2, 'is gone', 'f')", "f: is gone")]
+        for raised, says in others:
+            self.assert_ends(self.start(f"raise {raised}"), 1, f"tool: {says}\n")
 
     def test_a_full_device(self):
         with open("/dev/full", "w", encoding="ascii") as full:
