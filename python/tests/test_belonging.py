@@ -238,6 +238,12 @@ class ToolTests(ToolCase):
             with contextlib.nullcontext() if says is None else self.assertRaisesRegex(ValueError, says):
                 domethyme.Hierarchy(self.folder / "net.rch", keys=keys, network=self.folder / "net").close()
         domethyme.Hierarchy(self.folder / "net.rch", keys=["b", "a", "c"]).close()
+        self.assertEqual([*domethyme.open(self.folder / "net").keys], ["a", "b", "c"])
+        domethyme.Keys(["x", "y", "c"]).save(self.folder / "net.rch")
+        self.assertEqual([*domethyme.open(self.folder / "net").keys], ["x", "y", "c"])
+        (self.folder / "net.net").unlink()
+        alone = domethyme.open(self.folder / "net")
+        self.assertEqual(([*alone.keys], alone.network), (["x", "y", "c"], None))
 
 
 class ServiceTests(ServiceCase):

@@ -8,6 +8,7 @@ from tool_case import TOOLS, VILLAGE
 
 import domethyme
 import domethyme.errors
+from domethyme.deprecated import current_options
 
 SQUARE = [0, 1, 2, 3], [1, 2, 3, 0], [3, 4, 5, 6]
 FRAME = pandas.DataFrame({"from": ["a", "b"], "to": ["b", "a"], "weight": [1, 2]})
@@ -77,11 +78,15 @@ def test_arguments_by_old_names(village, old, new, before, now):
         assert [each.filename for each in caught] == [__file__]
         with pytest.raises(ValueError, match="from or to"):
             hierarchy.network.nearest(0, 0, "both")
+        with pytest.warns(DeprecationWarning), pytest.raises(domethyme.NoSuchNode):
+            hierarchy.nearest(0.0001, 0, within=0)
 
 
 def test_others(hierarchy, tmp_path):
     with pytest.raises(ValueError, match="not by 'hand'"):
         hierarchy.matrix(["a"], by="hand")
+    line = "--old is now --new; the old word goes with the next version"
+    assert current_options(["--old=a=b", "-o", "--", "--old"], {"--old": "--new"}) == (["--new=a=b", "-o", "--", "--old"], [line])
     for module in (domethyme, domethyme.errors):
         with pytest.raises(AttributeError, match="no_such_name"):
             module.no_such_name

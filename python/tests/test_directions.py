@@ -23,7 +23,7 @@ from reach_case import Road, prepared
 from tool_case import VILLAGE, ToolCase
 
 import domethyme
-from domethyme import tours
+from domethyme import batch, tours
 from domethyme.network import alternatives, directions
 from domethyme.network.bearings import BearingRange
 from domethyme.network.legs import find_leg
@@ -376,6 +376,9 @@ class FramesTests(ToolCase):
         assert table.fillna(-1).to_numpy().tolist() == rows[:, :2].tolist()
         assert hierarchy.table(places, frame).columns.tolist() == ["depot", "shop", "farm"]
         assert hierarchy.table(frame, missing=math.inf).to_numpy().tolist() == np.where(rows < 0, math.inf, rows).tolist()
+        for sums, what in (((), "lengths"), (["metres"], "sums")):
+            with mock.patch.object(batch, "MAX_CELLS", 3), pytest.raises(domethyme.OutOfMemory, match=f"a table of .* {what}"):
+                hierarchy.table(places, sums=sums)
         assert hierarchy.directions(frame) == hierarchy.directions(places) == hierarchy.directions(np.array(places))
         assert hierarchy.directions(places[:1] * 2).line == places[:1] * 2
         for wrong, says in (

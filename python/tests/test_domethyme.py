@@ -2,6 +2,7 @@
 import re
 import subprocess
 import sys
+import types
 import typing
 
 import numpy as np
@@ -27,7 +28,10 @@ def test_scaled_weights(values):
 
 
 @drawn(200)
-@given(st.integers(1, 10), st.lists(st.tuples(st.booleans(), st.sampled_from(["a", "b  c", "d\xe9"])), max_size=4), st.sampled_from(["", "net.rch"]))
+@given(
+    st.sampled_from([*range(1, 11), -9]), st.lists(st.tuples(st.booleans(), st.sampled_from(["a", "b  c", "d\xe9"])), max_size=4),
+    st.sampled_from(["", "net.rch"])
+)
 def test_errors_of_what_the_program_says(status, lines, file):
     """The message is the first line that is no warning, and others explain it, in their order."""
     said = "".join(f"{'routecli: warning: ' * is_warning}{text}\n" for is_warning, text in lines)
@@ -36,6 +40,8 @@ def test_errors_of_what_the_program_says(status, lines, file):
     wanted = f"routecli ended with status {status}" if at is None else f"{file}: ".removeprefix(": ") * (status == 4) + texts.pop(at)
     kind = {3: errors.GraphError, 4: errors.HierarchyError, 6: errors.OutOfMemory, 7: errors.ReadWriteError}.get(status, errors.ProgramError)
     error = errors.error_from_exit(status, said.encode(), file)
+    if status < 0:
+        kind, wanted, status, texts = errors.ProgramStopped, "routecli was ended by signal 9", 1, []
     assert (type(error), error.message, error.status, error.explanation) == (kind, wanted, status, texts)
 
 
@@ -123,6 +129,9 @@ print(domethyme.Hierarchy("--help").length(0, 2))
         self.assertFalse((self.folder / "square.rch").exists())
 
     def test_all_that_is_public_has_a_docstring(self):
+        others = "Any LATER RENAMED TYPE_CHECKING need open warn_renamed".split()
+        public = {name for name in dir(domethyme) if name[0] != "_" and not isinstance(getattr(domethyme, name), types.ModuleType)}
+        self.assertEqual({*domethyme.__all__, *others}, public)
         for name in domethyme.__all__:
             found = getattr(domethyme, name)
             if name == "NO_PATH":
@@ -179,6 +188,14 @@ print(domethyme.Hierarchy("--help").length(0, 2))
             told = str(caught.exception).splitlines()[0]
             self.assertEqual((told, caught.exception.status), (message, status))
         self.assertEqual(list(self.contents()), [graph])
+        for base, kinds in [
+            (FileNotFoundError, "HierarchyNotFound LibraryNotFound ProgramNotFound"), (MemoryError, "OutOfMemory"),
+            (OSError, "ReadWriteError"), (ValueError, "NoSuchNode"), (LookupError, "NoSuchNode"),
+            (errors.HierarchyError, "HierarchyNotFound NotProved WrongHierarchy"),
+            (errors.ProgramError, "ProgramNotFound ProgramStopped"), (errors.FileError, "MapError NetworkError"),
+        ]:
+            for kind in kinds.split():
+                self.assertIn(base, getattr(errors, kind).__mro__)
 
     def test_a_hierarchy_that_is_cut_off_or_no_hierarchy_inside(self):
         hierarchy = self.square()
@@ -239,6 +256,9 @@ print(domethyme.Hierarchy("--help").length(0, 2))
                 self.assertEqual(part, hierarchy.routes(np.array(pairs)[rows].reshape(-1, 2)))
         self.assertNotEqual(routes, routes[1:])
         self.assertEqual(routes.arcs.tolist(), [2, -1, 3, 0])
+        for none in ([], np.empty((0, 2), int), pd.DataFrame({"from": [], "to": []})):
+            found = hierarchy.routes(none)
+            self.assertEqual((len(hierarchy.lengths(none)), [*found], len(found.to_frame())), (0, [], 0))
 
     def test_keys_given_as_numbers_arrays_or_mappings(self):
         self.square()

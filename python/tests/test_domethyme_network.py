@@ -24,6 +24,9 @@ class NetworkTests(ToolCase):
         network = domethyme.Network(self.folder / "t")
         for place, nodes in ((0.0001, (0, 2)), (0.0009, (1, 1))):
             self.assertEqual(tuple(network.nearest(place, 0, side)[0] for side in ("from", "to")), nodes)
+            with self.assertWarns(DeprecationWarning):
+                old = [network.nearest(place, 0, end)[0] for end in (False, True)]
+                self.assertEqual([old, [network.nearest(place, 0, end=end)[0] for end in (False, True)]], [[*nodes]] * 2)
         self.assertEqual([network.keys().node(key) for key in (7, 8)], [0, 1])
 
     def test_files_that_are_refused(self):

@@ -2,6 +2,7 @@
 import importlib.machinery
 import importlib.util
 import json
+import re
 import sys
 from unittest import mock
 
@@ -12,6 +13,7 @@ from tool_case import PYTHON, ROOT, TOOLS, VILLAGE
 
 import domethyme
 from domethyme import library
+from domethyme.progress import reporting
 
 
 @pytest.fixture(scope="module")
@@ -26,8 +28,8 @@ def test_a_map_in_one_call(village):
     hierarchy, told, out = village
     assert [what for what in dict.fromkeys(what for what, _, _ in told)][:3] == ["ways", "places", "roads"]
     assert all(0 <= done <= total for _, done, total in told) and told[-1][0] in ("files", "prepare")
-    with domethyme.open(out) as again, domethyme.open(f"{out}.rch") as third, domethyme.open(f"{out}.net") as fourth:
-        assert fourth.path == third.path
+    with domethyme.open(out) as again, domethyme.open(f"{out}.rch") as third:
+        assert domethyme.open(f"{out}.net").path == domethyme.open(f"{out}.gr").path == third.path
         assert again.keys is None and again.network.prefix == str(out)
         assert again.route(0, 5).nodes == third.route(0, 5).nodes == hierarchy.route(0, 5).nodes
     for words, says in [({"profile": "tank"}, "no profile tank"), ({"speed": 3}, "no option speed"), ({"at_least": 1.0}, "35 of 38 nodes reach"),
@@ -42,6 +44,9 @@ def test_a_map_in_one_call(village):
         with pytest.raises(ValueError, match="is a folder, or empty"):
             domethyme.from_osm(VILLAGE, folder)
     assert not list(out.parent.glob("w*"))
+    with pytest.raises(domethyme.ProgramError, match="--order"):
+        domethyme.from_osm(VILLAGE, out.parent / "w", order="sideways")
+    assert {path.suffix for path in out.parent.glob("w*")} == {".gr", ".net"}
 
 
 def test_progress_of_what_takes_long(tmp_path):
@@ -56,6 +61,15 @@ def test_progress_of_what_takes_long(tmp_path):
     with pytest.raises(domethyme.GraphError, match="TooManyArcs|ArcCount"):
         (tmp_path / "bad.gr").write_text("p sp 2 5\na 1 2 3\n")
         domethyme.prepare(tmp_path / "bad.gr", tmp_path / "bad.rch", progress=lambda *now: None)
+
+
+def test_bars(capsys):
+    """Of what is done and how much there is; and of a single step the time."""
+    with reporting(True) as report:
+        for now in (("ways", 0, 20), ("ways", 5, 20), ("ways", 20, 20), ("files", 0, 1), ("files", 1, 1)):
+            report(*now)
+    said = capsys.readouterr().err
+    assert re.search(r"ways: 100%\|.*\| 20.0/20.0 \[", said) and re.search(r"files \[\d\d:\d\d\]\n$", said), said
 
 
 def test_what_notebooks_and_others_know(village):
@@ -93,6 +107,9 @@ def test_places_of_geopandas(village):
         for given in (points, frame, frame.geometry, frame.to_crs(3857), frame.geometry.to_crs(3857)):
             assert hierarchy.directions(given).weight == wanted.weight
         assert hierarchy.table(frame).to_numpy().tolist() == hierarchy.table(places[:count]).tolist()
+        with pytest.raises(ValueError, match="take their centroids"):
+            hierarchy.directions(geopandas.GeoSeries([*points[1:], points[0].buffer(1)]))
+    assert hierarchy.directions(geopandas.GeoSeries(points)) == hierarchy.directions([places[0], *points[1:]])
     assert hierarchy.network.points_on_roads(points[0]) == hierarchy.network.points_on_roads(places[0])
     lines = geopandas.GeoDataFrame.from_features([wanted], crs=4326)
     assert lines.weight[0] == wanted.weight and lines.geometry[0].geom_type == "LineString"

@@ -62,9 +62,10 @@ def test_lengths_routes_and_tables(data: Any) -> None:
             pairs = data.draw(st.lists(st.tuples(nodes, nodes), min_size=1, max_size=5))
             has_arrays = kind in ("none", "texts", "numbers")  # (others can't be in an array of numpy)
             check_pairs(asked, pairs, data.draw(st.sampled_from(["list", "array", *FRAMES])) if has_arrays else "list")
-            forms = [data.draw(st.sampled_from(["list", "iterator", "array", "series", "index"] if has_arrays else ["list"]))] * 2
+            of_pandas = ["series", "index"] if has_arrays or kind == "pairs" else []
+            forms = [data.draw(st.sampled_from(["list", "iterator", *of_pandas, *["array"] * has_arrays])) for _ in range(2)]
             sides = [data.draw(st.lists(nodes, min_size=1, max_size=6)) for _ in range(2)]
-            check_table(asked, *sides, forms[0], data.draw(st.sampled_from([None, None, -1, math.inf])))
+            check_table(asked, *sides, forms, data.draw(st.sampled_from([None, None, -1, math.inf])))
             added = st.one_of(st.just(0), st.integers(0, 50_000), st.just((1 << 32) - 1))
             starts, ends = (data.draw(st.dictionaries(nodes, added, min_size=1, max_size=4)) for _ in range(2))
             check_between(asked, starts, ends, data.draw(st.sampled_from(["mapping", "rows", "alone"])))
@@ -135,12 +136,12 @@ def check_line(asked: Asked, route: Any) -> None:
     assert is_same_line(found, points, 1e-6), (found, points)
 
 
-def check_table(asked: Asked, sources: list[int], targets: list[int], form: str, missing: float | None) -> None:
+def check_table(asked: Asked, sources: list[int], targets: list[int], forms: list[str], missing: float | None) -> None:
     """Objects of pandas and lists of keys give a frame, which has its axes, and arrays an array."""
-    make: Any = {"list": list, "iterator": iter, "array": np.array, "series": pandas.Series, "index": pandas.Index}[form]
+    makes: Any = {"list": list, "iterator": iter, "array": np.array, "series": pandas.Series, "index": pandas.Index}
     rows, columns = ([asked.keys[node] for node in side] for side in (sources, targets))
-    found = asked.hierarchy.matrix(make(rows), make(columns), missing=missing)
-    is_frame = form in ("series", "index") or form != "array" and asked.hierarchy.keys is not None
+    found = asked.hierarchy.matrix(*(makes[form](side) for form, side in zip(forms, (rows, columns))), missing=missing)
+    is_frame = any(form in ("series", "index") or form != "array" and asked.hierarchy.keys is not None for form in forms)
     assert isinstance(found, pandas.DataFrame) == is_frame
     if is_frame:
         assert (found.index.tolist(), found.columns.tolist()) == (rows, columns)

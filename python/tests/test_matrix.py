@@ -60,11 +60,13 @@ def test_no_sources_or_no_targets(network):
         assert network[0].matrix(sources, targets).shape == (len(sources), len(targets))
 
 
-@pytest.mark.parametrize("sources, targets", [([0, NODES], [1]), ([0], [1, NODES]), ([-1], [0]), ([0], [1 << 32]), ([0.5], [1])])
+@pytest.mark.parametrize("sources, targets", [
+    ([0, NODES], [1]), ([0], [1, NODES]), ([-1], [0]), ([0], [1 << 32]), ([0.5], [1]), ([[0, 1]], [1]), ([0], [[1]])
+])
 def test_nodes_that_are_not_there(network, sources, targets):
     with pytest.raises(ValueError, match="sources|targets") as caught:
         network[0].matrix(sources, targets)
-    assert isinstance(caught.value, domethyme.NoSuchNode) == (NODES in (*sources, *targets))
+    assert (getattr(caught.value, "key", None) == NODES) == (NODES in (*sources, *targets))
 
 
 def test_too_many_cells(network):
@@ -79,6 +81,10 @@ def test_too_many_cells(network):
         assert tracemalloc.get_traced_memory()[1] < 1 << 22
     finally:
         tracemalloc.stop()
+    with unittest.mock.patch.object(batch, "MAX_CELLS", 6):
+        assert network[0].matrix([1, 2], [1, 2, 3]).size == 6
+        with pytest.raises(domethyme.OutOfMemory):
+            network[0].matrix([1], [1] * 7)
 
 
 def test_the_calls_of_the_library(network):

@@ -8,6 +8,7 @@ from service_case import ServiceCase
 
 import domethyme
 from domethyme import find_program
+from domethyme.protocol import matches_request
 from domethyme_tools import on_roads
 from domethyme_tools.cli import ToolError
 
@@ -19,6 +20,16 @@ Back,0.0006,0,0.0003,0
 No way,0,0,0.020,0.005
 Nowhere,0.001,0,0.001,0
 """
+
+
+@pytest.mark.parametrize("reply, is_one", [
+    ("r 2 3 16 2 2 1 3", True), ("r 1 4 20 1 1 4", True), ("n", True), ("e OutOfMemory", True), ("e TooLong", True),
+    ("r 3 2 16 2 3 1 2", False), ("r 10 3 9 1 10 3", False), ("r 2 7 9 1 2 7", False), ("n 2 3", False), ("e NodeRange", False),
+    ("d 2 3 16", False), ("r 2 3", False), ("", False),
+])
+def test_replies_to_a_request(reply, is_one):
+    """From one of its starts, and not from what is added there, to one of its ends."""
+    assert matches_request(b"b 2 10 1 20 : 3 7 4 0", reply.encode()) == is_one
 
 
 @pytest.mark.parametrize("tool", ["nearest", "table"])
@@ -60,6 +71,8 @@ class OnRoadsTests(ServiceCase):
             ([*replies, "n\n"], "replies, row 7: is a reply more than trips.csv has rows"),
             ([replies[0], *replies[:0:-1]], "is no reply to the request of row"),
             ([replies[0], *(line.replace(" ", " 1", 3) for line in replies[1:])], "is no reply to the request of row 2"),
+            ([replies[0], "e TooLong\n"], "would repeat a node (TooLong): is it of another network?"),
+            (["ready 38\n"], "row 1: is no reply of routecli"), (["ready 38 x 2\n"], "row 1: is no reply of routecli"),
             ([replies[0], " ".join(changed) + "\n", *replies[2:]], "is it of another network?"),
         ]:
             self.write("replies", "".join(lines))

@@ -104,6 +104,12 @@ def in_blocks(drawn):
     return plain([routes.lengths, [routes[row] for row in range(100)], drawn.hierarchy.lengths([[0, 5]] * 10)])
 
 
+def summed(drawn):
+    """Metres from seven nodes to one, and to two."""
+    ask = drawn.hierarchy.matrix
+    return [plain(ask(np.arange(7), np.arange(count), missing=-1, sums=["metres"])["metres"]) for count in (1, 2)]
+
+
 def tables_of(drawn):
     """The tables of a network."""
     files = io.StringIO(), io.StringIO()
@@ -130,8 +136,8 @@ def snapped(drawn):
 
 
 CASES = [
-    (batch, "CHUNK_SIZE", in_blocks), (hierarchy_file, "MAX_READ", lambda drawn: domethyme.Hierarchy(f"{drawn.prefix}.rch").length(0, 5)),
-    (links, "AT_A_TIME", comparing),
+    (batch, "CHUNK_SIZE", in_blocks), (batch, "MAX_SUMMED_CELLS", summed), (links, "AT_A_TIME", comparing),
+    (hierarchy_file, "MAX_READ", lambda drawn: domethyme.Hierarchy(f"{drawn.prefix}.rch").length(0, 5)),
     (from_tables, "ARCS_AT_ONCE", straight),
     (net_file, "SECONDS_AT_A_TIME", lambda drawn: net_file.read(f"{drawn.prefix}.net").has_seconds),
     (parallel, "SLICE_ROWS", lambda drawn: drawn.hierarchy.network.roads.nearest((0.1, 0.1), 3)),

@@ -1,6 +1,7 @@
 """Tests of a hierarchy in this process: threads, forks, its end, files that are refused, and what can't be found."""
 import collections
 import concurrent.futures
+import contextlib
 import os
 import signal
 import subprocess
@@ -212,6 +213,13 @@ class RouterTests(ToolCase):
                 self.assertEqual(library.find_library(), str(file))
                 file.unlink()
             self.assertEqual(library.find_library(), "libdomethyme.so.1")
+            told, named = self.write("told.so", ""), self.write("named.so", "")
+            os.environ["DOMETHYME_LIBRARY"] = str(told)
+            self.assertEqual((library.find_library(), library.find_library(named)), (str(told), str(named)))
+            with contextlib.chdir(self.folder):
+                self.assertEqual(library.find_library("named.so"), f"{os.getcwd()}/named.so")
+            with self.assertRaisesRegex(domethyme.LibraryNotFound, "is no file of a library"):
+                library.find_library(self.folder)
 
     def test_without_numpy(self):
         """One question at a time needs Python alone; what needs more says so by ImportError."""

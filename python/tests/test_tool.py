@@ -1,4 +1,5 @@
 """Tests of cli.py, csv_tables.py and tables.py: files that are whole or as they were, tables, texts, and how tools end."""
+import contextlib
 import errno
 import os
 import shutil
@@ -11,7 +12,7 @@ from unittest import mock
 
 from tool_case import PYTHON, SECONDS, TAKES_SIGNALS, ToolCase
 
-from domethyme import DomethymeError, atomic_files, csv_tables, dimacs, find_program
+from domethyme import DomethymeError, atomic_files, csv_tables, dimacs, find_program, program
 from domethyme.network import from_tables, geo, table_files, tables
 from domethyme.protocol import NO_PATH, RouterResult
 
@@ -232,6 +233,8 @@ FAULTS = [
     (dimacs.read_graph, "n.gr", "p sp 2 1\n\na 1 3 3\n", ", row 3: node 3 isn't from 1 to 2"),
     (dimacs.read_graph, "n.gr", "p sp 2 1\na 1 2 4294967296\n", ", row 2: weight 4294967296 isn't from 0 to 4294967295"),
     (dimacs.read_graph, "n.gr", "p sp 2 2\na 1 2 3\n", ": has 1 arcs and announces 2"),
+    (dimacs.read_graph, "n.gr", "p sp 2 134217728\n", ": has 0 arcs and announces 134217728"),
+    (dimacs.read_graph, "n.gr", "p sp 2 134217729\n", ", row 1: the number of arcs 134217729 isn't from 0 to 134217728"),
     (dimacs.read_graph, "n.gr", "p sp 2 1\na 1 2 3\na 2 1 3\n", ": has 2 arcs and announces 1"),
     (dimacs.read_graph, "n.gr", "p sp 2 1\np sp 2 1\n", ", row 2: is no line of a graph"),
     (dimacs.read_answers, "answers", "n 1 2\n\n", ", row 2: is no answer of routecli"),
@@ -330,6 +333,23 @@ class Program(SharedCase):
         self.assertEqual(self.find(named, **environment), named)
         self.assertEqual(self.find(**environment), told)
         self.assertEqual(self.find(PATH=str(self.folder)), on_path)
+        inside, built = self.put_program("inside"), self.put_program("built")
+        with mock.patch.multiple(program, INSIDE=inside, BUILT=built), contextlib.chdir(self.folder):
+            self.assertEqual(self.find("./named"), f"{os.getcwd()}/named")
+            self.assertEqual((self.find(**environment), self.find(PATH=str(self.folder))), (told, str(inside)))
+            inside.unlink()
+            self.assertEqual((self.find(PATH=str(self.folder)), self.find(ROUTECLI="")), (on_path, str(built)))
+
+    def test_progress_in_pieces(self):
+        """Figures that a program shows at a terminal are reported, in whatever pieces they come, and the rest is what it said."""
+        lines = [f"\x1b[?7l\r{done} %: {done} of 100 nodes\x1b[K\x1b[?7h" for done in (3, 10, 100)]
+        text = f"routecli: warning: first\n{''.join(lines)}\r\x1b[Kroutecli: graph: last\n".encode()
+        for size in (1, 7, len(text)):
+            told, pieces = [], [text[begin : begin + size] for begin in range(0, len(text), size)]
+            with mock.patch.object(program, "read_terminal", side_effect=[*pieces, b""]):
+                said = program.read_shown(0, lambda *now: told.append(now), "prepare")
+            self.assertEqual(said, b"routecli: warning: first\nroutecli: graph: last\n")
+            self.assertEqual(told, [("prepare", done, 100) for done in (3, 10, 100)])
 
     def test_no_program(self):
         self.write("text", "no program")
