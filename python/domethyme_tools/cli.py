@@ -149,8 +149,3 @@ def write_rows(file: IO[str], rows: Iterable[Iterable[Any]]) -> None:
     csv.writer(file, lineterminator="\n").writerows(
         [escape_formula(field) if isinstance(field, str) else field for field in row] for row in rows
     )
-
-
-def tool_command(name: str) -> list[str]:
-    """The words that begin another tool, by this Python."""
-    return [sys.executable, "-P", str(pathlib.Path(__file__).parents[1] / "domethyme_launcher.py"), name]
