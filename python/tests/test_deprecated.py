@@ -50,7 +50,8 @@ OLD_NAMES = [
     ("Route.numbers", "node_indices", lambda hierarchy: hierarchy.route("a", "c").numbers == [0, 1, 2]),
     ("Routes.numbers", "node_indices", lambda hierarchy: hierarchy.routes([("a", "c")]).numbers(0).tolist() == [0, 1, 2]),
     *((r"matrix\(by=\)", "goes with the next version: leave it out",
-       lambda hierarchy, by=by: hierarchy.matrix(["a"], ["c"], by).loc["a", "c"] == 7) for by in ("library", "sweeps")),
+       lambda hierarchy, by=by: [hierarchy.matrix(["a"], ["c"], *more).loc["a", "c"] for more in ([by], [])] == [7, 7])
+      for by in ("library", "sweeps")),
 ]
 # The same of the village's.
 OLD_WORDS = [

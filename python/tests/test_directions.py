@@ -369,7 +369,8 @@ class FramesTests(ToolCase):
         hierarchy = domethyme.Hierarchy(self.folder / "v.rch", network=self.folder / "v")
         network = hierarchy.network
         places = [(float(network.lon[node]), float(network.lat[node])) for node in (0, 3, 5)]
-        frame = pandas.DataFrame(places, columns=["lon", "lat"], index=["depot", "shop", "farm"])
+        rows = [(lat, "x", lon) for lon, lat in places]
+        frame = pandas.DataFrame(rows, columns=["lat", "name", "lon"], index=["depot", "shop", "farm"])
         rows = hierarchy.table(places)
         table = hierarchy.table(frame, frame.iloc[:2])
         assert table.index.tolist() == ["depot", "shop", "farm"] and table.columns.tolist() == ["depot", "shop"]

@@ -161,7 +161,7 @@ print(domethyme.Hierarchy("--help").length(0, 2))
         for wrong, says in [
             ([[0, 1, 2]], "rows of two nodes"), ([0, 1], "rows of two nodes"), ([[0.5, 1]], "integers"),
             ([[0, -1]], "from 0"),
-            ([[0, 1], [2, 3], [3, 4]], r"row 2 of the pairs, \[3, 4\], has a node that the hierarchy lacks")
+            ([[0, 1], [2, 3], [3, 4], [5, 0]], r"row 2 of the pairs, \[3, 4\], has a node that the hierarchy lacks")
         ]:
             with self.subTest(says=says), self.assertRaisesRegex(ValueError, says):
                 hierarchy.routes(wrong)

@@ -24,7 +24,7 @@ def village(tmp_path_factory):
         yield hierarchy, told, out
 
 
-def test_a_map_in_one_call(village):
+def test_a_map_in_one_call(village, monkeypatch):
     hierarchy, told, out = village
     assert [what for what in dict.fromkeys(what for what, _, _ in told)][:3] == ["ways", "places", "roads"]
     assert all(0 <= done <= total for _, done, total in told) and told[-1][0] in ("files", "prepare")
@@ -47,6 +47,15 @@ def test_a_map_in_one_call(village):
     with pytest.raises(domethyme.ProgramError, match="--order"):
         domethyme.from_osm(VILLAGE, out.parent / "w", order="sideways")
     assert {path.suffix for path in out.parent.glob("w*")} == {".gr", ".net"}
+    text = rf"""#!/bin/sh
+case "$*" in *" --progress "*) printf '\033[?7l\r20 %%: 2 of 10 nodes\033[K\033[?7h' >&2 ;; esac
+exec {domethyme.find_program()} "$@"
+"""
+    (out.parent / "slow").write_text(text)
+    (out.parent / "slow").chmod(0o755)
+    monkeypatch.setenv("ROUTECLI", str(out.parent / "slow"))
+    domethyme.from_osm(VILLAGE, out.parent / "w", progress=lambda *now: told.append(now)).close()
+    assert ("prepare", 2, 10) in told
 
 
 def test_progress_of_what_takes_long(tmp_path):

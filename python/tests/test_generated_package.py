@@ -245,7 +245,7 @@ def test_ids_of_a_map(data: Any) -> None:
             assert (-1 if way is None else way.length) == min((length for length in flat if length >= 0), default=-1)
             assert way is None or way.source in starts and way.target in targets
             least = [min((each for each in row if each >= 0), default=-1) for row in wanted]
-            assert [there.iloc[begins[start]] for start in starts] == least
+            assert [there.iloc[begins[start]] for start in starts] == least and there.index.tolist() == [*hierarchy.keys]
 
 
 @drawn(110)

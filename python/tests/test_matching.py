@@ -73,6 +73,12 @@ class VillageTests(ToolCase):
         self.assertAlmostEqual(way.directions.metres, 0.7 * STEP, delta=0.5)
         self.assertTrue(all(places))
 
+    def test_places_beside_a_street(self):
+        """Roads within three deviations count, which are of 5 m where nobody says so."""
+        for metres, is_near in ((14.8, True), (15.2, False)):
+            places = self.hierarchy.match(self.along(0.0005, 0.0009, north=metres / STEP / 1000)).places
+            self.assertEqual([place is not None for place in places], [is_near] * 2)
+
     def test_directions(self):
         """A bearing decides on the direction of a street, though the places are one."""
         trace = self.along(0.0005, 0.00051)

@@ -252,6 +252,8 @@ class OneMachineTests(RouteManyCase):
         given = (self.folder / "pairs").read_text()
         self.run_tool("route_many", "network.rch", "-", "out", "--pairs-per-part", PART, "--jobs", 2, given=given)
         self.assert_answered()
+        ended = self.run_tool("route_many", "network.rch", "-", "out", status=5, given="p aux sp p2p 1\nq 1 x\n")
+        self.assertIn("  standard input:2: q 1 x", ended.stderr.splitlines())
 
     def test_no_pairs(self):
         self.write("pairs", "p aux sp p2p 0\n")
@@ -586,7 +588,8 @@ class TwoCallsTests(RouteManyCase):
     def test_a_cut_that_was_not_finished_is_made_anew(self):
         drafts = f"drafts-{'0' * 32}"
         (self.folder / "out.parts" / drafts).mkdir(parents=True)
-        for name in ["000000.pairs", "000077.answers", "1000000.pairs", "plan.json.x.new", "whole.pairs", f"{drafts}/more"]:
+        names = ["000000.pairs", "000000.answers", "000077.answers", "1000000.pairs", "plan.json.x.new", "whole.pairs"]
+        for name in [*names, f"{drafts}/more", f"gone-{'0' * 32}"]:
             self.write(f"out.parts/{name}", "r 1 1 0 0 1\n")
         self.many("--jobs", 2)
         self.assert_answered()

@@ -39,11 +39,6 @@ class WholeFiles(SharedCase):
     def texts(self):
         return [path.read_text(encoding="utf-8") for path in self.paths]
 
-    def test_new_files(self):
-        self.write_all("new")
-        self.assertEqual(self.texts(), ["new"] * 3)
-        self.assertEqual(len(self.contents()), 3)
-
     def test_nothing_is_seen_before_the_end(self):
         self.write_all("old")
         with atomic_files.atomic_write_all(*self.paths) as opened:
@@ -52,6 +47,7 @@ class WholeFiles(SharedCase):
                 file.flush()
             self.assertEqual(self.texts(), ["old"] * 3)
         self.assertEqual(self.texts(), ["new"] * 3)
+        self.assertEqual(len(self.contents()), 3)
 
     def test_an_exception_leaves_the_old_files(self):
         self.write_all("old")
@@ -101,11 +97,6 @@ class WholeFiles(SharedCase):
         with unittest.mock.patch.object(os, "umask", side_effect=AssertionError):
             self.write_all("new")
         self.assertEqual(stat.S_IMODE(self.paths[0].stat().st_mode), 0o640)
-
-    def test_a_device_is_written_straight(self):
-        with atomic_files.atomic_write("/dev/null") as file:
-            file.write("text")
-        self.assertTrue(stat.S_ISCHR(os.stat("/dev/null").st_mode))
 
 
 class Ends(SharedCase):
