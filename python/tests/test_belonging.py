@@ -182,6 +182,10 @@ class ToolTests(ToolCase):
         self.assertIn("to_network: net.rch is older than net.gr: run `routecli prepare --order balanced net.gr net.rch` again\n", self.made(ARCS))
         domethyme.prepare(self.folder / "net.gr", self.folder / "net.rch", workers=1).close()
         self.assertIn("osm_to_gr: net.rch is older than net.gr: run", self.run_tool("osm_to_gr", VILLAGE, "net").stderr)
+        for later, is_older in ((0, False), (1, True)):  # (a nanosecond)
+            for name, stamp in (("net.rch", 10**18), ("net.gr", 10**18 + later)):
+                os.utime(self.folder / name, ns=(stamp, stamp))
+            self.assertEqual(belonging.older_hierarchy(str(self.folder / "net")) is not None, is_older)
         (self.folder / "net.rch").unlink()
         self.assertNotIn("older", self.made(ARCS))
 

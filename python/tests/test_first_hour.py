@@ -12,7 +12,6 @@ import pytest
 from tool_case import PYTHON, ROOT, TOOLS, VILLAGE
 
 import domethyme
-from domethyme import library
 from domethyme.progress import reporting
 
 
@@ -143,7 +142,6 @@ PLACE = 47.1, 9.5
     (lambda h: domethyme.Hierarchy(h.path, keys=h.network), r"is it network.keys\(\)"),
     (lambda h: domethyme.Graph.from_keys([1], [2], [5e9]), "scale=1000"), (lambda h: domethyme.open("none"), "none.gr none.rch` makes it"),
     (lambda h: domethyme.Graph.from_frame(pd.DataFrame({"a": [1], "b": [2]}), "a", "b"), "no column weight; it has a, b"),
-    (lambda h: library.find_library("none.so"), "none.so: No such file"),
     (lambda h: domethyme.from_osm("none.osm", "none"), "none.osm: No such file"),
     (lambda h: domethyme.prepare("li.net", "li.rch"), "its graph ends in .gr"), (lambda h: domethyme.prepare("li.osm.pbf", "li.rch"), "is a map"),
 ])

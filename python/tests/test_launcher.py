@@ -20,7 +20,8 @@ class LauncherTests(ToolCase):
     def test_tools_by_their_names(self):
         for name in ("domethyme-to-geojson", "to_geojson"):
             (self.folder / name).symlink_to(LAUNCHER)
-            self.assertIn(f"usage: {name} ", self.run_program([self.folder / name, "--help"]).stdout)
+            said = self.run_program([self.folder / name, "--help"]).stdout
+            self.assertRegex(said, rf"(?s)^usage: {name} .*\nExit status: .*\n\nexamples:\n  routecli .* \| {name} out/li - ")
         self.assertIn("usage: draw ", self.run_program([LAUNCHER, "draw", "--help"]).stdout)
         for words in ([LAUNCHER], [LAUNCHER, "drew"]):
             ended = self.run_program(words, status=2)

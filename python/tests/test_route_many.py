@@ -632,6 +632,8 @@ class CutTests(RouteManyCase):
     def cut(self):
         ended = self.many("--split-only")
         self.assertEqual(ended.stdout, f"20 parts in {self.folder.resolve()}/out.parts\n")
+        heads = {path.read_text().partition("\n")[0] for path in (self.folder / "out.parts").glob("0*.pairs")}
+        self.assertEqual(heads, {f"p aux sp p2p {PART}"})
 
     def test_cut_answer_and_join(self):
         self.cut()

@@ -234,6 +234,7 @@ FAULTS = [
     (dimacs.read_answers, "answers", "r 1 2 x 1 1 2\n", ", row 1: the number 'x' isn't an integer"),
     (dimacs.read_answers, "answers", "r 1 2 9 2 1 2\n", ", row 1: has nodes that don't fit its pair and its number of arcs"),
     (dimacs.read_answers, "answers", "r 1 2 9 1 1 3\n", ", row 1: has nodes that don't fit its pair and its number of arcs"),
+    (dimacs.read_answers, "answers", "r 1 2 9 1 3 2\n", ", row 1: has nodes that don't fit its pair and its number of arcs"),
 ]
 
 
