@@ -60,14 +60,6 @@ class HierarchyTests(ToolCase):
         # a parallel arc that is heavier, and a road from a node to itself, change nothing
         domethyme.Hierarchy(path, network=self.network("same", ARCS + "a,b,700\nb,b,3\n")).close()
 
-    def test_other_speeds_of_the_same_map(self):
-        self.run_tool("osm_to_gr", VILLAGE, "v", "--keep-islands")
-        path, slow = self.prepared("v"), self.folder / "slow.json"
-        self.run_tool("osm_to_gr", VILLAGE, "v", "--keep-islands", "--weight", "length")
-        with self.assertRaisesRegex(domethyme.WrongHierarchy, FOREIGN):
-            domethyme.Hierarchy(path, network=self.folder / "v")
-        self.assertFalse(slow.exists())
-
     def test_one_weight_of_many(self):
         """Of a made town with 900 nodes each arc in turn, some of them: a weight that differs by one is found, and so are drawn ones."""
         draw, size = random.Random(1), 30

@@ -188,14 +188,11 @@ print(domethyme.Hierarchy("--help").length(0, 2))
             told = str(caught.exception).splitlines()[0]
             self.assertEqual((told, caught.exception.status), (message, status))
         self.assertEqual(list(self.contents()), [graph])
-        for base, kinds in [
-            (FileNotFoundError, "HierarchyNotFound LibraryNotFound ProgramNotFound"), (MemoryError, "OutOfMemory"),
-            (OSError, "ReadWriteError"), (ValueError, "NoSuchNode"), (LookupError, "NoSuchNode"),
-            (errors.HierarchyError, "HierarchyNotFound NotProved WrongHierarchy"),
-            (errors.ProgramError, "ProgramNotFound ProgramStopped"), (errors.FileError, "MapError NetworkError"),
-        ]:
-            for kind in kinds.split():
-                self.assertIn(base, getattr(errors, kind).__mro__)
+        of_files = dict.fromkeys(["HierarchyNotFound", "LibraryNotFound", "ProgramNotFound"], FileNotFoundError)
+        others = {"OutOfMemory": MemoryError, "ReadWriteError": OSError, "NoSuchNode": LookupError, "NotProved": errors.HierarchyError,
+                  "WrongHierarchy": errors.HierarchyError, "ProgramStopped": errors.ProgramError, "MapError": errors.FileError}
+        for kind, base in {**of_files, **others}.items():
+            self.assertIn(base, getattr(errors, kind).__mro__)
 
     def test_a_hierarchy_that_is_cut_off_or_no_hierarchy_inside(self):
         hierarchy = self.square()

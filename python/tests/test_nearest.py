@@ -41,7 +41,7 @@ class NearestTests(ToolCase):
         self.write("trips.csv", TRIPS)
 
     def snapped(self):
-        return (self.folder / "snapped.csv").read_text()
+        return (self.folder / "snapped.csv").read_bytes().decode()
 
     def test_tables(self):
         for trips, pairs, snapped in TABLES:
