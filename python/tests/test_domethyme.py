@@ -189,8 +189,9 @@ print(domethyme.Hierarchy("--help").length(0, 2))
             self.assertEqual((told, caught.exception.status), (message, status))
         self.assertEqual(list(self.contents()), [graph])
         of_files = dict.fromkeys(["HierarchyNotFound", "LibraryNotFound", "ProgramNotFound"], FileNotFoundError)
-        others = {"OutOfMemory": MemoryError, "ReadWriteError": OSError, "NoSuchNode": LookupError, "NotProved": errors.HierarchyError,
-                  "WrongHierarchy": errors.HierarchyError, "ProgramStopped": errors.ProgramError, "MapError": errors.FileError}
+        others = {"OutOfMemory": MemoryError, "ReadWriteError": OSError, "NoSuchNode": LookupError, "MapError": errors.FileError,
+                  "NotProved": errors.HierarchyError, "WrongHierarchy": errors.HierarchyError,
+                  "ProgramStopped": errors.ProgramError}
         for kind, base in {**of_files, **others}.items():
             self.assertIn(base, getattr(errors, kind).__mro__)
 

@@ -225,7 +225,8 @@ class ToolTests(ToolCase):
         self.assertEqual(self.arcs("map"), before)
         for count, more in ((10, ""), (12, ", ..")):
             line = self.reweighed("".join(f"{way},50\n" for way in range(100, 100 + count)), "--unmatched", "rows")[0][0]
-            self.assertEqual(line, f"reweigh: speeds.csv: {count} of {count} rows match nothing: 1, 2, 3, 4, 5, 6, 7, 8, 9, 10{more}")
+            numbers = f"1, 2, 3, 4, 5, 6, 7, 8, 9, 10{more}"
+            self.assertEqual(line, f"reweigh: speeds.csv: {count} of {count} rows match nothing: {numbers}")
         self.assertEqual((self.folder / "rows").read_text(), "".join(f"{row}\n" for row in range(1, 13)))
         for ending in ("gr", "net"):
             self.assertEqual((self.folder / f"new.{ending}").read_bytes(), (self.folder / f"map.{ending}").read_bytes())

@@ -117,7 +117,7 @@ class Ends(SharedCase):
 
     def test_done(self):
         self.assertEqual(self.assert_ends(self.start("print('told')"), 0, ""), "told\n")
-        body = "for mode, text in (('w', 'é'), ('wb', b'!')):\n  with atomic_files.atomic_write('-', mode) as file: file.write(text)"
+        body = "for mode, text in (('w', 'é'), ('wb', b'!')):\n  with atomic_files.atomic_write('-', mode) as out: out.write(text)"
         child = self.start(body, env={**os.environ, "PYTHONIOENCODING": "latin-1"})
         self.assertEqual(self.assert_ends(child, 0, ""), "é!")
 
@@ -125,8 +125,8 @@ class Ends(SharedCase):
         self.assert_ends(self.start("raise cli.ToolError('is wrong', 'file', 3)"), 1, "tool: file, row 3: is wrong\n")
         told = "tool: standard input: two lines\n"
         self.assert_ends(self.start("raise cli.ToolError('two\\nlines', '-', status=5)"), 5, told)
-        others = [("MemoryError", "there isn't enough memory"), ("OSError('odd')", "odd"), ("OSError(2, 'is gone', 'f')", "f: is gone")]
-        for raised, says in others:
+        odd = ("OSError('odd')", "odd"), ("OSError(2, 'is gone', 'f')", "f: is gone")
+        for raised, says in (("MemoryError", "there isn't enough memory"), *odd):
             self.assert_ends(self.start(f"raise {raised}"), 1, f"tool: {says}\n")
 
     def test_a_full_device(self):
