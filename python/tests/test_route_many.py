@@ -210,8 +210,8 @@ class PartsTests(ToolCase):
 
 
 KINDS = ["q 1 2"] * 20 + [
-    "q 3 4", "q\t5 6 ", " q 7 8", "qq 1 2", "q 1", "q 1 x", "q 0 1", "q", "Q 1 2", "x", "\r", "\v", "", "c", "cq 1 2", "  c", " \t",
-    "p aux sp p2p 2", "p", "q 1 2\r", "\x0bq 1 2", "q\xa01 2", "q 1 2\x0c"
+    "q 3 4", "q\t5 6 ", " q 7 8", "qq 1 2", "q 1", "q 1 x", "q 0 1", "q", "Q 1 2", "x", "\r", "\v", "", "c", "cq 1 2", " \t",
+    "  c \xe9", "p aux sp p2p 2", "p", "q 1 2\r", "\x0bq 1 2", "q\xa01 2", "q 1 2\x0c"
 ]
 PROBLEMS = ["p aux sp p2p {}"] * 20 + ["p\taux sp p2p  00{} ", "p aux sp p2p", "p aux sp {}", "p aux sp p2p -{}"]
 
