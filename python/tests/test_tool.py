@@ -1,6 +1,7 @@
 """Tests of cli.py, csv_tables.py and tables.py: files that are whole or as they were, tables, texts, and how tools end."""
 import contextlib
 import errno
+import gzip
 import os
 import shutil
 import signal
@@ -185,14 +186,32 @@ class Tables(SharedCase):
         self.assert_table_fault(", row 1: has no column b; its columns are a,  b: there is a blank beside b", b"a, b\n")
         self.assert_table_fault(", row 1: has two columns a", b"a,b,a\n")
         self.assert_table_fault(", row 3: has 1 fields in place of 2", b"a,b\n1,2\n3\n")
+        self.assert_table_fault(", row 2: has 3 fields in place of 2", b"a,b\n1,2,3\n")
+        for names, more in ("cdefghijklmn", ""), ("cdefghijklmno", ", ..."):
+            told = f", row 1: has no columns a, b; its columns are {', '.join(names[:12])}{more}"
+            self.assert_table_fault(told, ",".join(names).encode())
+        tabs = csv_tables.Form(is_chosen=True).doubt(["a\tb"])
+        self.assertEqual(tabs, ": fields have to be separated by commas, or give --delimiter tab")
         self.assert_table_fault(", row 2: isn't UTF-8: save it as CSV UTF-8", b"a,b\n\xff,2\n")
         self.assert_table_fault(", row 2: isn't CSV: unexpected end of data", b'a,b\n"1,2\n')
+
+    def test_gzip(self):
+        """A file, and standard input: whole, cut off, and with a byte changed in what is packed, in its checksum and in its length."""
+        path, packed = self.folder / "table.csv", gzip.compress(b"a,b\n1,2\n", mtime=0)
+        changed = [packed[:place] + bytes([packed[place] ^ 255]) + packed[place:][1:] for place in (10, -8, -4)]
+        for data in (packed, packed[:-9], *changed):
+            path.write_bytes(data)
+            for name in (path, "-"):
+                is_whole = contextlib.nullcontext() if data == packed else self.assertRaisesRegex(DomethymeError, "isn't a whole file of gzip")
+                with self.subTest(data=data, name=name), open(path) as stream, mock.patch("sys.stdin", stream), is_whole:
+                    with csv_tables.open_table(name, "ab") as rows:
+                        self.assertEqual(list(rows), [(2, {"a": "1", "b": "2"})])
 
     def test_numbers(self):
         self.assertEqual(csv_tables.parse_int("-3", "n", "f", 1, -5, 5), -3)
         self.assertEqual(csv_tables.parse_int(b"007", "n", "f", 1), 7)
         self.assertEqual(csv_tables.parse_float("1.5e1", "n", "f", 1), 15.0)
-        for text in ("", "1_0", "1.0", "٣", "x" * 50, "9" * 5000):
+        for text in ("", "1_0", "1.0", "٣", "x" * 40, "x" * 41, "9" * 5000):
             shown = repr(text if len(text) <= 40 else text[:40] + "..")
             self.assert_fault(f"f, row 1: n {shown} isn't an integer", csv_tables.parse_int, text, "n", "f", 1)
         self.assert_fault("f, row 1: n 6 isn't from 0 to 5", csv_tables.parse_int, "6", "n", "f", 1, 0, 5)
