@@ -35,7 +35,6 @@ class ColumnTests(ToolCase):
         """What is doubted, columns that aren't used, and common names and other letters, which are taken as they are meant."""
         wanted = self.made()[1]
         doubted = "from,to,metres,kmh\ndepot,shop,0.8,50\nshop,depot,112,50\nshop,farm,111,30\nfarm,shop,222.3,500000\n"
-        other = "ID,Latitude,lng\ndepot,0,0\nshop,0,0.001\nfarm,0.002,0.001\n", ARCS.replace("from,to,kmh", "source,To_ID,KMH")
         for nodes, arcs, lines, is_same in [
             (NODES, ARCS, (), True), (NODES.replace("lon,lat", "LON,Lat"), ARCS, (), True), (NODES.replace("lon,lat", "x,y"), ARCS, None, True),
             (NODES, doubted, ("arcs.csv: metres of 2 arcs are less than the straight line: are they km?",
@@ -44,8 +43,6 @@ class ColumnTests(ToolCase):
             (NODES.replace("\n", ",x\n"), ARCS, ("nodes.csv: columns not used: x\n",), True),
             (NODES, "from,to,kmh,one_way,speed,kmhh\ndepot,shop,50,1,2,3\n",
              ("arcs.csv: columns not used: one_way (did you mean oneway?), speed, kmhh\n",), False),
-            (*other, [f"{name} is taken as {word}\n" for name, word in (
-                ("nodes.csv: column ID", "node"), ("nodes.csv: column lng", "lon"), ("arcs.csv: column source", "from"))], True),
         ]:
             said, graph = self.made(nodes, arcs)
             with self.subTest(lines=lines):
@@ -141,6 +138,43 @@ class ColumnTests(ToolCase):
         self.assert_refused(
             "to_network", "nodes.csv.gz", "arcs.csv", "cut", says="nodes.csv.gz: isn't a whole file of gzip"
         )
+
+
+@pytest.mark.parametrize("nodes, arcs", [
+    ("id,lng,latitude", "source,target,meters,kmh"), ("ID,long,y", "from_node,to_node,METRES,km/h"), ("Node,Longitude,lat", "From_ID,to_id,Metres,kph"),
+    ("iD,X,LAT", "from,TO,metres,KMH"),
+])
+def test_names_of_columns(tmp_path, nodes, arcs):
+    """Each that the page has, in letters of any case, and what is said of those that aren't the column's own."""
+    said, paths = [], (tmp_path / "nodes.csv", tmp_path / "arcs.csv")
+    paths[0].write_text(f"{nodes}\na,0.25,47\nb,0.5,47\n")
+    paths[1].write_text(f"{arcs}\nb,a,20000,36\n")
+    read = from_tables.read_nodes(paths[0], said.append)
+    found = from_tables.read_arcs(paths[1], read, say=said.append).columns
+    assert read.arrays.places.tolist() == [[2_500_000, 470_000_000], [5_000_000, 470_000_000]]
+    assert [found[f"arc_{name}"].tolist() for name in ("from", "to", "weight", "metres", "osm")] == [[1], [0], [2_000_000], [20_000], [0]]
+    own = zip((*nodes.split(","), *arcs.split(",")), ("node", "lon", "lat", "from", "to", "metres", "kmh"), [paths[0]] * 3 + [paths[1]] * 4)
+    assert sorted(said) == sorted(f"{path}: column {name} is taken as {word}" for name, word, path in own if name.lower() != word)
+
+
+@pytest.mark.parametrize("nodes, arcs, says", [
+    ("lon,lat\n0,0\n0.001,0\n", "from,to,weight\n1,3,1\n", "arcs, row 2: to 3 isn't from 1 to 2"),
+    ("lon,lat\n0,0\n0.001,0\n", "from,to,weight\n2,1,1\n0,2,1\n", "arcs, row 3: from 0 isn't from 1 to 2"),
+    ("node,lon,lat,key\na,0,0,x\nb,0,0,x\n", "", "nodes, row 3: key 'x' comes twice"), ("lon,lat\n-180.1,0\n", "", "nodes, row 2: lon '-180.1' isn't from -180 to 180"),
+    (NODES, ARCS.replace(",50", ",-1"), "arcs, row 2: kmh '-1' isn't from 0 to 1e+12; another row is refused too"),
+    (NODES, ARCS.replace("0\n", "x\n"), "arcs, row 2: kmh '5x' is not a number; 2 other rows are refused too"),
+    (NODES, "from,to,kmh,oneway\ndepot,shop,50,x\n", "arcs, row 2: oneway 'x' is none of 1, yes, -1, 0, no"),
+    *((NODES, f'from,to,kmh,wkt\ndepot,shop,5,"LINESTRING ({line})"\n', f"arcs, row 2: {says}") for line, says in (
+        ("0 0, 0.001 0.01", "its line ends 1,112 m from its node: are from and to swapped?"), ("0 0, 0 -90.1, 0.001 0", "WKT 'LINESTRING (0 0, 0 -90.1, 0.001 0)' has what are no degrees"),
+        ("0 0, 180.1 0, 0.001 0", "WKT 'LINESTRING (0 0, 180.1 0, 0.001 0)' has what are no degrees"),
+    )),
+])
+def test_rows_that_are_refused(tmp_path, nodes, arcs, says):
+    (tmp_path / "nodes").write_text(nodes)
+    (tmp_path / "arcs").write_text(arcs)
+    with pytest.raises(domethyme.NetworkError) as refused:
+        from_tables.read_arcs(tmp_path / "arcs", from_tables.read_nodes(tmp_path / "nodes"))
+    assert str(refused.value) == f"{tmp_path}/{says}"
 
 
 def test_a_line_of_many_points(tmp_path):
