@@ -141,8 +141,8 @@ class ColumnTests(ToolCase):
 
 
 @pytest.mark.parametrize("nodes, arcs", [
-    ("id,lng,latitude", "source,target,meters,kmh"), ("ID,long,y", "from_node,to_node,METRES,km/h"), ("Node,Longitude,lat", "From_ID,to_id,Metres,kph"),
-    ("iD,X,LAT", "from,TO,metres,KMH"),
+    ("id,lng,latitude", "source,target,meters,kmh"), ("ID,long,y", "from_node,to_node,METRES,km/h"),
+    ("Node,Longitude,lat", "From_ID,to_id,Metres,kph"), ("iD,X,LAT", "from,TO,metres,KMH"),
 ])
 def test_names_of_columns(tmp_path, nodes, arcs):
     """Each that the page has, in letters of any case, and what is said of those that aren't the column's own."""
@@ -152,20 +152,23 @@ def test_names_of_columns(tmp_path, nodes, arcs):
     read = from_tables.read_nodes(paths[0], said.append)
     found = from_tables.read_arcs(paths[1], read, say=said.append).columns
     assert read.arrays.places.tolist() == [[2_500_000, 470_000_000], [5_000_000, 470_000_000]]
-    assert [found[f"arc_{name}"].tolist() for name in ("from", "to", "weight", "metres", "osm")] == [[1], [0], [2_000_000], [20_000], [0]]
-    own = zip((*nodes.split(","), *arcs.split(",")), ("node", "lon", "lat", "from", "to", "metres", "kmh"), [paths[0]] * 3 + [paths[1]] * 4)
+    names = "from", "to", "weight", "metres", "osm"
+    assert [found[f"arc_{name}"].tolist() for name in names] == [[1], [0], [2_000_000], [20_000], [0]]
+    own = zip(f"{nodes},{arcs}".split(","), ("node", "lon", "lat", *names[:2], "metres", "kmh"), [paths[0]] * 3 + [paths[1]] * 4)
     assert sorted(said) == sorted(f"{path}: column {name} is taken as {word}" for name, word, path in own if name.lower() != word)
 
 
 @pytest.mark.parametrize("nodes, arcs, says", [
     ("lon,lat\n0,0\n0.001,0\n", "from,to,weight\n1,3,1\n", "arcs, row 2: to 3 isn't from 1 to 2"),
     ("lon,lat\n0,0\n0.001,0\n", "from,to,weight\n2,1,1\n0,2,1\n", "arcs, row 3: from 0 isn't from 1 to 2"),
-    ("node,lon,lat,key\na,0,0,x\nb,0,0,x\n", "", "nodes, row 3: key 'x' comes twice"), ("lon,lat\n-180.1,0\n", "", "nodes, row 2: lon '-180.1' isn't from -180 to 180"),
+    ("node,lon,lat,key\na,0,0,x\nb,0,0,x\n", "", "nodes, row 3: key 'x' comes twice"),
+    ("lon,lat\n-180.1,0\n", "", "nodes, row 2: lon '-180.1' isn't from -180 to 180"),
     (NODES, ARCS.replace(",50", ",-1"), "arcs, row 2: kmh '-1' isn't from 0 to 1e+12; another row is refused too"),
     (NODES, ARCS.replace("0\n", "x\n"), "arcs, row 2: kmh '5x' is not a number; 2 other rows are refused too"),
     (NODES, "from,to,kmh,oneway\ndepot,shop,50,x\n", "arcs, row 2: oneway 'x' is none of 1, yes, -1, 0, no"),
     *((NODES, f'from,to,kmh,wkt\ndepot,shop,5,"LINESTRING ({line})"\n', f"arcs, row 2: {says}") for line, says in (
-        ("0 0, 0.001 0.01", "its line ends 1,112 m from its node: are from and to swapped?"), ("0 0, 0 -90.1, 0.001 0", "WKT 'LINESTRING (0 0, 0 -90.1, 0.001 0)' has what are no degrees"),
+        ("0 0, 0.001 0.01", "its line ends 1,112 m from its node: are from and to swapped?"),
+        ("0 0, 0 -90.1, 0.001 0", "WKT 'LINESTRING (0 0, 0 -90.1, 0.001 0)' has what are no degrees"),
         ("0 0, 180.1 0, 0.001 0", "WKT 'LINESTRING (0 0, 180.1 0, 0.001 0)' has what are no degrees"),
     )),
 ])

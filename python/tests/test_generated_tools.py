@@ -27,7 +27,10 @@ import domethyme
 from domethyme_tools.cli import ToolError
 
 # What the words of the column oneway mean: arcs along a row, and back.
-DIRECTIONS = {"": (1, -1), "0": (1, -1), "no": (1, -1), "1": (1,), "yes": (1,), "true": (1,), "-1": (-1,), "reverse": (-1,)}
+DIRECTIONS = {
+    **dict.fromkeys(["", "0", "no", "false", "0.0", " No"], (1, -1)), **dict.fromkeys(["1", "yes", "true", "1.0", "YES "], (1,)),
+    **dict.fromkeys(["-1", "reverse", "-1.0", "Reverse"], (-1,))
+}
 SOURCES = ["from_lon", "from_lat", "to_lon", "to_lat"]
 # Texts of a user's column: none that a program for sheets takes for a formula may be written as it is, unless it is a number.
 NUMBERS = ("", "-1", "+1.5e3")
@@ -35,13 +38,14 @@ LABELS = (*NUMBERS, "depot", "=1+1", "+x", "-x", "@a", "'=x", "it's")
 
 
 class Figures(NamedTuple):
-    """An arc's weight, seconds and metres, and which of these its row doesn't say."""
+    """An arc's weight, seconds and metres, and which of these its row says."""
 
     weight: int
     seconds: float
     metres: float
     has_weight: bool
     has_seconds: bool
+    has_metres: bool
 
 
 def figures_of(row: Mapping[str, str], line: list[Point], unit: str) -> Figures | None:
@@ -50,13 +54,13 @@ def figures_of(row: Mapping[str, str], line: list[Point], unit: str) -> Figures 
     has_weight, has_seconds = "weight" in said, bool({"seconds", "kmh"} & set(said))
     if unit == "time" and not has_weight and not has_seconds:
         return None
-    metres = round(along(line)[-1], 2)
-    if "metres" in said or "km" in said:
+    metres, has_metres = round(along(line)[-1], 2), bool({"metres", "km"} & set(said))
+    if has_metres:
         metres = float(said["metres"]) if "metres" in said else 1000 * float(said["km"])
-    seconds = round(metres * 3.6 / float(said["kmh"]), 3) if "kmh" in said else 0.0
+    seconds = metres * 3.6 / float(said["kmh"]) if "kmh" in said else 0.0  # (the tool rounds them to the thousandth)
     seconds = float(said.get("seconds", seconds))
     weight = round(1000 * seconds if unit == "time" else 100 * metres)
-    return Figures(int(said.get("weight", max(1, weight))), seconds, metres, has_weight, has_seconds)
+    return Figures(int(said.get("weight", max(1, weight))), seconds, metres, has_weight, has_seconds, has_metres)
 
 
 def write_rows(path: pathlib.Path, columns: list[str], rows: Any) -> None:
@@ -284,8 +288,8 @@ def own_rows(draw: Any, nodes: int) -> list[dict[str, str]]:
     """Rows of a user's table of arcs: columns may be missing, by other names, and empty in some rows."""
     texts = {
         "weight": st.integers(0, 9999).map(str), "seconds": st.integers(0, 5000).map(lambda value: str(value / 8)),
-        "kmh": st.integers(1, 130).map(str), "metres": st.integers(0, 3000).map(str), "km": st.sampled_from(["0.5", "1.25"]),
-        "oneway": st.sampled_from(sorted(DIRECTIONS)),
+        "kmh": st.one_of(st.integers(1, 130), st.just(450)).map(str), "metres": st.integers(0, 3000).map(str),
+        "km": st.sampled_from(["0.5", "1.25"]), "oneway": st.sampled_from(sorted(DIRECTIONS)),
     }
     columns = draw(st.sets(st.sampled_from(sorted(texts))))
     gaps = draw(st.sets(st.sampled_from(sorted(texts))))
@@ -299,41 +303,78 @@ def own_rows(draw: Any, nodes: int) -> list[dict[str, str]]:
 @drawn(200)
 @given(st.data())
 def test_own_tables(data: Any) -> None:
-    """Each row's weight, seconds and metres, by the page of own data; and a doubt about what some rows alone say."""
+    """Each row's weight, seconds, metres and line, by the page of own data; and what is said of what may be meant otherwise."""
     points = data.draw(st.lists(points_near(ORIGINS[0]), min_size=1, max_size=4))
     rows, unit = data.draw(own_rows(len(points))), data.draw(st.sampled_from(["time", "length"]))
-    other = data.draw(st.sampled_from([{}, {"from": "Source", "to": "target", "kmh": "km/h", "metres": "Meters"}]))
-    expected, is_refused = [], False
-    for row in rows:
+    other = data.draw(st.sampled_from([{}, {"from": "Source", "to": "target", "kmh": "km/h", "metres": "Meters", "WKT": "wkt"}]))
+    most, forms = data.draw(st.sampled_from([0, 2])), [("", ""), ("LINESTRING ", "linestring")]
+    inner = [data.draw(st.lists(points_near(ORIGINS[0]), max_size=most)) for _ in rows]
+    lines = [[points[int(row["from"]) - 1], *some, points[int(row["to"]) - 1]] for row, some in zip(rows, inner)]
+    for row, some, line in zip(rows, inner, lines):
+        row |= {"WKT": wkt(line).replace(*data.draw(st.sampled_from(forms))) if some else ""} if any(inner) else {}
+    made = [*zip(rows, lines)]
+    made += data.draw(st.lists(st.sampled_from(made), max_size=2))
+    expected = []
+    for number, (row, line) in enumerate(made, 2):
         for step in DIRECTIONS[row.get("oneway", "1")]:
             start, end = [int(row["from"]) - 1, int(row["to"]) - 1][::step]
-            figures = figures_of(row, [points[start], points[end]], unit)
-            is_refused = is_refused or figures is None
-            expected.append((start, end, figures))
+            expected.append(OwnArc(start, end, figures_of(row, line[::step], unit), line[::step], number, row))
+    refused = sorted({arc.row for arc in expected if arc.figures is None})
     with tempfile.TemporaryDirectory() as folder:
         path = pathlib.Path(folder)
         write_rows(path / "nodes.csv", ["lon", "lat"], [(f"{lon:.7f}", f"{lat:.7f}") for lon, lat in points])
-        columns = list(rows[0])
-        write_rows(path / "arcs.csv", [other.get(name, name) for name in columns], (list(row.values()) for row in rows))
+        write_rows(path / "arcs.csv", [other.get(name, name) for name in rows[0]], (list(row.values()) for row, _ in made))
         words = path / "nodes.csv", path / "arcs.csv", path / "net", "--weight", unit
-        if is_refused:
-            with pytest.raises(domethyme.NetworkError, match="none of weight, seconds and kmh"):
+        if refused:
+            rest = len(refused) - 1
+            more = {0: "", 1: "; another row is refused too"}.get(rest, f"; {rest} other rows are refused too")
+            with pytest.raises(domethyme.NetworkError, match=f"row {refused[0]}: has none of weight, seconds and kmh, [^;]*{more}$"):
                 run_tool("to_network", *words)
             return
         said = run_tool("to_network", *words)[1]
         arcs = domethyme.Network(path / "net").arcs_frame()
         graph = [tuple(map(int, line.split()[1:])) for line in (path / "net.gr").read_text().splitlines() if line[0] == "a"]
-    found = [tuple(row) for row in arcs[["from", "to", "weight", "seconds", "metres"]].itertuples(index=False)]
+    found = [tuple(row) for row in arcs[["from", "to", "weight", "seconds", "metres", "WKT"]].itertuples(index=False)]
     assert graph == [(start + 1, end + 1, weight) for start, end, weight, *_ in found]
-    for (start, end, weight, seconds, metres), (first, last, wanted) in zip(found, expected, strict=True):
-        assert (start, end, seconds) == (first, last, pytest.approx(wanted.seconds, abs=1e-9))
-        assert metres == pytest.approx(wanted.metres, abs=0.0101) and abs(weight - wanted.weight) <= 1
-        assert weight == wanted.weight or not wanted.has_weight
-    check_doubts(said, [figures for _, _, figures in expected], unit)
+    for (start, end, weight, seconds, metres, line), arc in zip(found, expected, strict=True):
+        exact = figures_of(arc.texts | {"metres": str(metres)}, arc.line, unit)
+        assert (start, end, line, seconds) == (arc.start, arc.end, wkt(arc.line), pytest.approx(exact.seconds, abs=0.000501))
+        derived = max(1, round(1000 * seconds if unit == "time" else 100 * metres))
+        assert metres == pytest.approx(arc.figures.metres, abs=0.0101) and weight == (exact.weight if exact.has_weight else derived)
+    check_doubts(said, expected, unit)
 
 
-def check_doubts(said: str, arcs: list[Any], unit: str) -> None:
-    """A column that some rows alone have is doubted: their weights, or seconds, are of another kind."""
-    without = [sum(not arc.has_weight for arc in arcs), sum(not arc.has_seconds for arc in arcs)]
-    for count, text in zip(without, ("weight of {} arcs is empty", "{} arcs have neither seconds nor kmh")):
-        assert (text.format(count) in said) == (0 < count < len(arcs)), (said, arcs)
+class OwnArc(NamedTuple):
+    """An arc of a user's table, its figures, None where its row says too little, its line, its row, and the texts of this."""
+
+    start: int
+    end: int
+    figures: Any
+    line: list[Point]
+    row: int
+    texts: dict[str, str]
+
+
+def wkt(line: list[Point]) -> str:
+    return f"LINESTRING ({', '.join(f'{lon:.7f} {lat:.7f}' for lon, lat in line)})"
+
+
+def check_doubts(said: str, arcs: list[OwnArc], unit: str) -> None:
+    """A column that some rows alone have is doubted: their weights, or seconds, are of another kind. So are figures that no road
+    has, roads of one way alone, and rows that are there twice."""
+    figures = [arc.figures for arc in arcs]
+    straight = [(arc.figures.metres, along([arc.line[0], arc.line[-1]])[-1]) for arc in arcs if arc.figures.has_metres]
+    ends = {(arc.start, arc.end) for arc in arcs if arc.start != arc.end}
+    known: dict[Any, int] = {}
+    again = {arc.row for arc in arcs if known.setdefault((arc.start, arc.end, arc.figures[:3]), arc.row) != arc.row}
+    without = [sum(not each.has_weight for each in figures), sum(not each.has_seconds for each in figures)]
+    for text, count in {
+        "weight of {} arcs is empty": without[0] % len(arcs), "{} arcs have neither seconds nor kmh": without[1] % len(arcs),
+        "metres of {} arcs are less than the straight line": sum(metres < 0.99 * least - 1 for metres, least in straight),
+        "metres, or km, of {} arcs are over 100 times": sum(metres > 100 * least and least >= 10 for metres, least in straight),
+        "{} arcs are faster than 400 km/h": sum(each.metres * 3.6 > 400 * each.seconds > 0 for each in figures),
+        "{} arcs take 0 seconds, and weigh 1": sum(not each.seconds and not each.has_weight for each in figures) * (unit == "time"),
+        "no arc has one back": int(len(arcs) > 1 and bool(ends) and not any(each[::-1] in ends for each in ends)),
+        "{} rows have the ends and figures of earlier ones": len(again),
+    }.items():
+        assert (f"arcs.csv: {text.format(count)}" in said) == (text.split("{}")[-1] in said) == (count > 0), (said, text, arcs)
