@@ -9,6 +9,7 @@ import unittest.mock
 import zlib
 
 import numpy as np
+import pytest
 from tool_case import IN_TABLES, PYTHON, ROOT, VILLAGE, ToolCase
 
 import domethyme
@@ -137,6 +138,12 @@ class OtherTests(BinaryCase):
                 self.assertIn(f"v.net: is damaged: {name} has another checksum", str(error))
                 damaged.append(name)
         self.assertEqual(len(damaged), 1)
+        size = os.path.getsize(self.path)
+        os.truncate(self.path, size + 1)
+        with self.assertRaisesRegex(domethyme.NetworkError, "was written to while it was in use"):
+            arrays.file.check_unchanged()
+        os.truncate(self.path, size)
+        arrays.file.check_unchanged()
         with open(self.path, "r+b") as file:
             file.seek(-1, os.SEEK_END)
             file.write(b"\x77")
@@ -144,27 +151,59 @@ class OtherTests(BinaryCase):
             with self.assertRaisesRegex(domethyme.NetworkError, "was written to while it was in use"):
                 attempt()
 
-    def test_a_part_written_in_place(self):
-        """A read of blocks of which one was verified before the file was written verifies that one too."""
-        form, path = {"a": ColumnSpec("<i8")}, self.folder / "array"
-        for rows in (slice(4, 20), np.array([3, 20])):
-            with self.subTest(rows=rows), unittest.mock.patch.object(column_file, "BLOCK", 64):
-                with open(path, "w+b") as file:
-                    column_file.write(file, form, 1, [("a", np.arange(24))])
-                    file.flush()
-                    column = column_file.MappedFile(file, "array", {1: form}, "").columns["a"]
-                self.assertEqual(column[3], 3)
-                path.write_bytes(path.read_bytes().replace(b"\3\0", b"\7\0", 1))
-                os.utime(path, (1, 1))
-                with self.assertRaisesRegex(domethyme.NetworkError, "a has another checksum"):
-                    column[rows]
-
     def test_replaced_by_a_rename(self):
         roads = RoadIndex(self.prefix)
         shutil.copy(self.path, self.folder / "new")
         os.replace(self.folder / "new", self.path)
         roads.arrays.file.check_unchanged()
         self.assertEqual(len(roads.arrays.node_lat[:]), 38)
+
+
+@pytest.fixture
+def mapped(tmp_path, monkeypatch):
+    """Writes numbers to a file, eight to a block, and maps it."""
+    monkeypatch.setattr(column_file, "BLOCK", 64)
+
+    def map_numbers(numbers, **spec):
+        form = {"a": ColumnSpec("<i8", **spec)}
+        with open(tmp_path / "array", "w+b") as file:
+            column_file.write(file, form, 1, [("a", np.array(numbers))])
+            file.flush()
+            return column_file.MappedFile(file, "array", {1: form}, "").columns["a"]
+
+    return map_numbers
+
+
+@pytest.mark.parametrize("damaged", range(3))
+@pytest.mark.parametrize("index", [
+    8, np.int64(23), slice(None), slice(8, 16), slice(7, 9), slice(4, 20), slice(16, None), slice(9, 9), slice(15, 7, -1), slice(8, 6, -1),
+    slice(None, None, -1), slice(23, 8, -5), np.array([3, 20]), np.array([[16], [9]]), np.array([], int), np.arange(24) % 8 == 7
+], ids=repr)
+def test_what_an_index_takes_is_verified(mapped, tmp_path, index, damaged):
+    """Also a block that was verified before the file was written; another that is damaged is no hindrance."""
+    column, rows, path = mapped(range(24)), np.arange(24), tmp_path / "array"
+    assert column[3] == 3
+    whole = bytearray(path.read_bytes())
+    whole[column_file.HEAD.itemsize + 64 * damaged] ^= 99
+    path.write_bytes(whole)
+    os.utime(path, (1, 1))
+    if damaged in np.atleast_1d(rows[index]) // 8:
+        with pytest.raises(domethyme.NetworkError, match="a has another checksum"):
+            column[index]
+    else:
+        assert column[index].tolist() == rows[index].tolist()
+
+
+@pytest.mark.parametrize("numbers, spec, says", [
+    ([*range(8), 6, *range(9, 24)], {"min_step": 0, "low": 0, "high": 23}, "has wrong offsets"),
+    ([24, *range(1, 24)], {"low": 0, "high": 23}, "isn't from 0 to 23"), ([*range(7), -1, *range(8, 24)], {"low": 0, "high": 23}, "isn't from"),
+])
+def test_values_that_can_not_be(mapped, numbers, spec, says):
+    """They are refused where their block is read; an offset is compared with that of the next block."""
+    column = mapped(numbers, **spec)
+    assert column[9] == 9
+    with pytest.raises(domethyme.NetworkError, match=f"is damaged: a {says}"):
+        column[5]
 
 
 class SmallTests(BinaryCase):
