@@ -93,7 +93,7 @@ class OtherTests(BinaryCase):
             arcs.write_bytes(whole)
         self.assertTrue(net_file.is_current(self.prefix))
         text = (self.folder / "v.nodes.csv").read_text()
-        self.write("v.nodes.csv", text.rstrip("\n"))
+        self.write("v.nodes.csv", "\ufeff" + text.rstrip("\n"))
         os.utime(self.folder / "v.nodes.csv", (1, 1))
         self.assertFalse(net_file.is_current(self.prefix))
         self.assertEqual(len(from_tables.load_network(self.prefix).node_osm), text.count("\n") - 1)

@@ -24,7 +24,7 @@ CALLS = [
     ("table net net.rch places.csv trips.csv -o out.npy --metres more.npy", "out.npy more.npy"),
     ("reach net net.rch places.csv -o out", "out"), ("match net net.rch places.csv -o out", "out"),
     ("reweigh net places.csv out --unmatched more", "out.gr out.net more"), ("without net toll out", "out"),
-    ("draw net answers out.svg", "out.svg"), ("page net net.rch out.html", "out.html"),
+    ("draw net answers out.svg", "out.svg"), ("page net net.rch out.html", "out.html"), ("nearest x.co trips.csv -o out", "out"),
     ("to_network places.csv trips.csv out --tables", "out.gr out.net out.nodes.csv out.arcs.csv"),
     ("osm_to_gr answers out --profile own.json --tables", "out.gr out.net out.nodes.csv out.arcs.csv"),
 ]
@@ -36,7 +36,8 @@ def test_no_output_is_an_input(tmp_path, monkeypatch, call, outputs):
     """By none of its names: the call is refused before anything is read, and nothing is written."""
     monkeypatch.chdir(tmp_path)
     tool, *words = call.split()
-    files = [*(OF_NETWORK if "net" in words else []), *(word for word in words if word in ("net.rch", "answers") or word.endswith((".csv", ".json")))]
+    inputs = "net.rch", "answers", ".csv", ".json", ".co"
+    files = [*(OF_NETWORK if "net" in words else []), *(word for word in words if word.endswith(inputs)), *(["x.gr"] if "x.co" in words else [])]
     for name in files:
         (tmp_path / name).write_text(name)
     with pytest.raises((domethyme.DomethymeError, ValueError)):  # (of the files, not of the words)
@@ -119,9 +120,10 @@ class OverwritingTests(ToolCase):
     def test_tables_that_a_tool_has_written(self):
         self.run_tool("osm_to_gr", VILLAGE, "v", "--tables")
         self.assert_kept("osm_to_gr", self.write("bare.osm", "<osm version='0.6'/>"), "v", status=1, says="has no road")
+        self.write("v.arcs.prj", "my own")
         said = self.run_tool("osm_to_gr", VILLAGE, "v").stderr
-        self.assertIn("osm_to_gr: removed v.nodes.csv, v.arcs.csv, v.nodes.csvt, v.nodes.prj, v.arcs.csvt, v.arcs.prj, which were of", said)
-        self.assertEqual(sorted(path.suffix for path in self.folder.glob("v.*")), [".gr", ".net"])
+        self.assertIn("osm_to_gr: removed v.nodes.csv, v.arcs.csv, v.nodes.csvt, v.nodes.prj, v.arcs.csvt, which were of", said)
+        self.assertEqual(sorted(path.suffix for path in self.folder.glob("v.*")), [".gr", ".net", ".prj"])
         self.run_tool("osm_to_gr", VILLAGE, "v", "--tables")
         with open(self.folder / "v.arcs.csv", "a", encoding="utf-8") as file:
             file.write("1,2,7,1,1,0,,,\n")

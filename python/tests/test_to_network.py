@@ -69,8 +69,11 @@ class TableTests(ToolCase):
         for words, said in ((("--attribution", " a\n b"), "a b"), ((), "a b"), (("--attribution", ""), "")):
             self.made("--tables", *words)
             self.assertEqual(read_attribution(self.folder / "net"), said)
+        for name in ("nodes.csv", "arcs.csv"):
+            self.write(name, (self.folder / name).read_text().replace("farm", "=farm"))
         self.made("--tables", "--attribution", "© Firm")
         self.assertTrue(net_file.is_current(str(self.folder / "net")))
+        self.assertTrue((self.folder / "net.nodes.csv").read_text().endswith(",,'=farm\n"))
         text = (self.folder / "net.arcs.csv").read_text()
         self.assertIn(",residential,'=Lane,", text)
         self.assertEqual([arc.name for arc in read_rows(self.folder / "net.arcs.csv")], ["High Street", "High Street", "=Lane", "=Lane"])

@@ -276,15 +276,27 @@ class Networks(SharedCase):
             self.assert_fault(f"{word}: {says}", tables.nodes_file, word)
         words = ("li", "li.co", "li.co.gz")
         self.assertEqual([tables.nodes_file(word) for word in words], ["li.nodes.csv", "li.co", "li.co.gz"])
+        self.assertEqual([tables.arcs_file(word) for word in words], ["li.arcs.csv", "li.gr", "li.gr"])
+        for there in ("li.gr.gz", "li.gr"):  # (the one that isn't packed is taken where both are there)
+            self.write(there, "")
+            for word in words[1:]:
+                self.assertEqual(tables.graph_of(self.folder / word), str(self.folder / there))
+
+    def test_attributions(self):
+        for text, wanted in [
+            ("c by hand\nc attribution:  \u00a9 A: B \nc attribution: C\np sp 1 0\n", "\u00a9 A: B"), ("p sp 1 0\nc attribution: A\n", ""), ("", ""),
+        ]:
+            self.write("n.gr", text)
+            self.assertEqual([tables.read_attribution(self.folder / word) for word in ("n", "n.co", "none")], [wanted, wanted, ""])
 
     def test_there_and_back(self):
         nodes = """node,osm,lon,lat,ends
-1,5,-180.0000000,-90.0000000,
+1,12000000005,-180.0000000,-90.0000000,
 2,,0.1234567,0.0000000,from
 3,-7,180.0000000,90.0000000,no
 """
         arcs = """from,to,weight,seconds,metres,osm,highway,name,ref,junction,destination,structure,toll,WKT
-1,2,16012,16.012,222.39,101,tertiary,"High ""Street"", N",,,'=x,,,"LINESTRING (-180.0000000 -89.9999999, 0.1234567 0.0000001)"
+1,2,16012,16.012,222.39,10000000101,tertiary,"High ""Street"", N",,,'=x,,,"LINESTRING (-180.0000000 -89.9999999, 0.1234567 0.0000001)"
 2,1,1,0.000,0.00,-5,residential,,,,,,yes,"LINESTRING (0.1234567 0.0000000, -180.0000000 -90.0000000)"
 """
         self.write("n.nodes.csv", nodes)
