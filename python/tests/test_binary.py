@@ -14,7 +14,7 @@ from tool_case import IN_TABLES, PYTHON, ROOT, VILLAGE, ToolCase
 
 import domethyme
 from domethyme.network import column_file, from_tables, net_file
-from domethyme.network.columns import ColumnSpec
+from domethyme.network.columns import ABOUT, ColumnSpec
 from domethyme.network.snapping import RoadIndex
 from domethyme_service.tiles import Tiles
 
@@ -72,8 +72,9 @@ class SameTests(BinaryCase):
             route = domethyme.Route(start, end, weight, [], [start, end])
             self.assertEqual(route.geojson(network), route.geojson(tables))
         for each in (network, tables):
-            with self.assertRaisesRegex(domethyme.NetworkError, "has no arc from node 0 to node 37"):
-                each.line([0, 37])
+            for nodes, says in (([1, 0, 37], "arc from node 0 to node 37, counted"), ([0, 38], "it has 38 nodes"), ([-1, 0], "it has 38 nodes")):
+                with self.assertRaisesRegex(domethyme.NetworkError, rf"{each.prefix}.arcs.csv: .*has.* {says}"):
+                    each.line(nodes)
         self.assertEqual(frame.astype(str).values.tolist(), tables.arcs_frame().astype(str).values.tolist())
         self.assertEqual(network.nodes_frame().astype(str).values.tolist(), tables.nodes_frame().astype(str).values.tolist())
 
@@ -212,7 +213,7 @@ class SmallTests(BinaryCase):
     def make(self):
         self.write("n.csv", NODES)
         self.write("a.csv", ARCS)
-        self.run_tool("to_network", "n.csv", "a.csv", "v")
+        self.run_tool("to_network", "n.csv", "a.csv", "v", "--attribution", "Us")
 
     def test_each_byte_changed(self):
         """A named fault, or the same answers: those of the bytes between arrays, which nobody reads."""
@@ -292,12 +293,16 @@ class SmallTests(BinaryCase):
         self.refused("has version 99 and not one from 2 to 6; convert the map again, or make it of its tables, as `to_network")
 
     def test_an_earlier_version(self):
-        """A file of version 2, without checksums of tables, has what this one has."""
-        arrays = net_file.read(str(self.path))
+        """A file of version 2, without checksums of tables, has what this one has, also with fewer kinds of texts."""
+        arrays, frames = net_file.read(str(self.path)), []
         columns = {name: column[:] for name, column in arrays.file.columns.items()}
-        with open(self.folder / "old.net", "w+b") as file:
-            column_file.write(file, net_file.FORMS[4], 2, {**columns, "about": columns["about"][:-2]}.items())
+        columns |= {"about": columns["about"][: ABOUT.index("nodes_sum")]}
+        for texts in (columns["row_texts"] * (np.arange(8) < 5), columns["row_texts"]):
+            with open(self.folder / "old.net", "w+b") as file:
+                column_file.write(file, net_file.FORMS[4], 2, {**columns, "row_texts": texts}.items())
+            frames.append(domethyme.Network(self.folder / "old").arcs_frame().values.tolist())
         self.assert_same(net_file.read(self.folder / "old.net"), arrays)
+        self.assertEqual((frames[0], columns["about"][2:5].tolist()), (frames[1], [0, 3, 3]))
 
     def test_a_route_that_meets_a_damaged_block(self):
         """The file opens, and what isn't damaged is answered; what is read of the damaged block is refused, each time."""
