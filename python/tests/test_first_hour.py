@@ -119,6 +119,9 @@ def test_places_of_geopandas(village):
             hierarchy.directions(geopandas.GeoSeries([*points[1:], points[0].buffer(1)]))
     assert hierarchy.directions(geopandas.GeoSeries(points)) == hierarchy.directions([places[0], *points[1:]])
     assert hierarchy.network.points_on_roads(points[0]) == hierarchy.network.points_on_roads(places[0])
+    arcs, lines = hierarchy.network.arcs_frame(), hierarchy.network.to_geodataframe()
+    assert lines.geometry.geom_equals_exact(geopandas.GeoSeries.from_wkt(arcs.pop("WKT"), crs=4326), 0).all() and lines.crs == 4326
+    assert lines.drop(columns="geometry").equals(arcs)
     lines = geopandas.GeoDataFrame.from_features([wanted], crs=4326)
     assert lines.weight[0] == wanted.weight and lines.geometry[0].geom_type == "LineString"
 
@@ -135,7 +138,14 @@ PLACE = 47.1, 9.5
     (lambda h: h.reach([0], 5, minutes=3), "one of both"), (lambda h: h.matrix(np.array([9.5])), "table.sources, targets. takes places"),
     (lambda h: h.route(PLACE, PLACE), "directions.places. takes places"), (lambda h: h.routes([PLACE, PLACE]), "directions.places. takes places"),
     (lambda h: h.directions([(*PLACE, 5), PLACE]), "rows .lon, lat., or points"), (lambda h: h.directions(["9.5,47.1", "9.6,47.1"]), "rows .lon, lat."),
-
+    (lambda h: h.nearest([0.0, 0.005], [0.0, 0.02]), r"^place 1 has no node within 1000 m: the nearest .*: are lon and lat swapped\?$"),
+    (lambda h: h.directions([(0.0, 0.0), (0.005, 0.02)]), r"^place 1 has no road within 1000 m: .*: are lon and lat swapped\?$"),
+    (lambda h: h.nearest(0.0, np.nan), "have to be numbers of degrees"), (lambda h: h.nearest(180.1, 0), "lon has to be from -180 to 180"),
+    (lambda h: h.nearest(0, -90.1), "and lat from -90 to 90"), (lambda h: h.directions([(0, 0)] * 2, snapping="all"), "snapping has to"),
+    (lambda h: h.network.points_on_roads((0.0055, 0), 9, bearings=[(0, 5)]), "^place 0 has no road within 9 m in the direction of its"),
+    *((lambda h, value=value: h.network.points_on_roads((0, 0), bearings=[value]), "a bearing is .*, and not") for value in (
+        (361, 5), (-1, 5), (90, 181), (90, -1), (90,), (90, 5, 5), 90, "a", (None, 5))),
+    (lambda h: h.network.keys("name"), "v.nodes.csv: No such file"),
     (lambda h: h.nearest([0, 0.01], [0.0]), "2 values of lon and 1 of lat"), (lambda h: h.nearest(60, 0.0), r"km|m away$"),
     (lambda h: h.nearest(0.0, 60), "m away$"), (lambda h: h.network.nearest(0, 60), "no node within 1000 m"),
     (lambda h: h.network.geojson(None), "there is no route"), (lambda h: domethyme.Hierarchy(b"x"), "takes the path of a file, and no bytes"),

@@ -14,7 +14,7 @@ from draws import HEAVY, KINDS, Drawn, drawn, networks, places, run_tool, write_
 from hypothesis import given
 from hypothesis import strategies as st
 from comparing import Near, difference, is_same_line, unwrapped
-from model.network import Ambiguous, Network
+from model.network import Ambiguous, Arc, Network
 from model.reach import reached_lines
 from model.sphere import Point, along
 
@@ -133,7 +133,7 @@ def check_line(asked: Asked, route: Any) -> None:
     parts = geometry["coordinates"] if geometry["type"] == "MultiLineString" else [geometry["coordinates"]]
     assert all(abs(b[0] - a[0]) <= 180 for part in parts for a, b in zip(part, part[1:]))
     found = [(lon, lat) for part in parts for lon, lat in part if len(parts) == 1 or abs(lon) != 180]
-    assert is_same_line(found, points, 1e-6), (found, points)
+    assert len(found) > 1 and is_same_line(found, points, 1e-6), (found, points)
 
 
 def check_table(asked: Asked, sources: list[int], targets: list[int], forms: list[str], missing: float | None) -> None:
@@ -177,6 +177,7 @@ def check_between(asked: Asked, starts: dict[int, int], ends: dict[int, int], fo
     first, last = asked.node(found.source), asked.node(found.target)
     assert found.length == min(sums) == starts[first] + asked.lengths[first][last] + ends[last]
     assert is_route(asked, found.nodes, found.source, found.target, asked.lengths[first][last])
+    check_line(asked, found)
 
 
 def check_reach(asked: Asked, starts: dict[int, int], limit: int | None, towards: bool) -> None:
@@ -345,11 +346,13 @@ def check_frames(made: Drawn, network: Any) -> None:
     nodes, arcs = network.nodes_frame(), network.arcs_frame()
     keys = [node.key for node in made.tables.nodes]  # (texts all, since one is no number)
     assert list(network.keys()) == keys if hasattr(network.keys(), "__iter__") else network.keys().key(0) == keys[0]
+    assert network.has_names and nodes.index.tolist() == [*range(len(keys))]
     assert nodes["key"].tolist() == keys and nodes["ends"].tolist() == [node.ends for node in made.tables.nodes]
     osm = [None if str(value) in ("nan", "<NA>") else int(value) for value in nodes["osm"].tolist()]
     assert osm == [node.osm for node in made.tables.nodes]
     assert list(zip(nodes["lon"], nodes["lat"])) == [node.place for node in made.tables.nodes]
-    rows = arcs[["from", "to", "weight", "osm", "name", "junction"]].itertuples(index=False)
-    assert [tuple(row) for row in rows] == [(*arc[:3], arc.way, arc.name, arc.junction) for arc in made.tables.arcs]
+    rows = arcs[["from", "to", "weight", "seconds", "metres", "osm", *Arc._fields[7:]]].itertuples(index=False)
+    assert [tuple(row) for row in rows] == [(*arc[:5], *arc[6:]) for arc in made.tables.arcs]
+    assert arcs["toll"].tolist() == ["yes" if arc.way % 4 == 1 else "" for arc in made.tables.arcs] and not arcs["structure"].any()
     lines = [[tuple(map(float, point.split())) for point in text[12:-1].split(", ")] for text in arcs["WKT"]]
     assert lines == [list(arc.line) for arc in made.tables.arcs]
