@@ -1,8 +1,23 @@
 """Tests of networks in the package domethyme: nodes near places, routes as GeoJSON, and keys of OpenStreetMap."""
+import pickle
 
+import pytest
 from tool_case import VILLAGE, ToolCase
 
 import domethyme
+
+
+def test_a_relative_path(tmp_path, monkeypatch):
+    """A network that was pickled has its files in another folder too, and leaves the same classes out."""
+    (tmp_path / "net.nodes.csv").write_text("node,osm,lon,lat\n1,,0.5,0\n")
+    monkeypatch.chdir(tmp_path)
+    pickled = pickle.dumps(domethyme.Network("net", exclude=["toll", "ferry"]))
+    monkeypatch.chdir("/")
+    network = pickle.loads(pickled)
+    assert (repr(network), network.exclude, network.lon.tolist()) == (f"<Network {tmp_path}/net>", {"toll", "ferry"}, [0.5])
+    with pytest.raises(domethyme.NetworkError, match="/net: its nodes have no keys: they are in the column node, or osm"):
+        network.keys()
+
 
 class NetworkTests(ToolCase):
     def setUp(self):

@@ -48,18 +48,22 @@ class Way(NamedTuple):
     speeds: tuple[float, float]
 
 
+# The ids of points and ways are above these, and more than 32 bits long.
+POINTS, WAYS = 12_000_000_100, 5_000_000_000
+
+
 class Map(NamedTuple):
     points: list[Point]
     ways: list[Way]
 
     def text(self) -> str:
-        nodes = "".join(f"<node id='{100 + number}' lon='{lon}' lat='{lat}'/>" for number, (lon, lat) in enumerate(self.points))
+        nodes = "".join(f"<node id='{POINTS + number}' lon='{lon}' lat='{lat}'/>" for number, (lon, lat) in enumerate(self.points))
         ways = []
         for number, way in enumerate(self.ways):
             tags = {"highway": way.highway, "maxspeed:forward": f"{way.speeds[0]}", "maxspeed:backward": f"{way.speeds[1]}"}
             tags |= {"oneway": "yes"} if way.is_oneway else {}
-            refs = "".join(f"<nd ref='{100 + point}'/>" for point in way.points)
-            ways.append(f"<way id='{number + 1}'>{refs}{''.join(f'<tag k={k!r} v={v!r}/>' for k, v in tags.items())}</way>")
+            refs = "".join(f"<nd ref='{POINTS + point}'/>" for point in way.points)
+            ways.append(f"<way id='{WAYS + number}'>{refs}{''.join(f'<tag k={k!r} v={v!r}/>' for k, v in tags.items())}</way>")
         return f"<osm version='0.6'>{nodes}{''.join(ways)}</osm>"
 
 
@@ -98,13 +102,13 @@ def test_as_the_map_says(data: Any) -> None:
     for way in after.ways:
         for here, there in zip(way.points, way.points[1:]):
             for step, speed in (((here, there), way.speeds[0]), ((there, here), way.speeds[1])):
-                rows.append((*(100 + point for point in step), speed))
+                rows.append((*(POINTS + point for point in step), speed))
                 shared.setdefault(step, set()).add(speed)
     is_by_way = any(len(speeds) > 1 for speeds in shared.values()) or data.draw(st.booleans())
     is_by_way |= len({*after.points}) < len(after.points)  # (in one place points may be of one road, which has no ids there)
     if is_by_way:
         after = after._replace(ways=[way._replace(speeds=way.speeds[:1] * 2) for way in after.ways])
-        rows = [(number + 1, way.speeds[0]) for number, way in enumerate(after.ways)]
+        rows = [(WAYS + number, way.speeds[0]) for number, way in enumerate(after.ways)]
     with tempfile.TemporaryDirectory() as name:
         folder = pathlib.Path(name)
         (folder / "own.json").write_text(profile)
@@ -128,8 +132,8 @@ def test_a_part_of_a_road(data: Any) -> None:
     with tempfile.TemporaryDirectory() as name:
         folder = pathlib.Path(name)
         convert(Map(steps, [Way(tuple(range(len(steps))), "primary", False, (old, old))]).text(), folder, "map", "--longest-arc", longest)
-        rows: list[tuple[float, ...]] = [] if of_way is None else [(1, of_way)]
-        rows += [(100 + place, 101 + place, speed) for place, speed in enumerate(new) if speed is not None]
+        rows: list[tuple[float, ...]] = [] if of_way is None else [(WAYS, of_way)]
+        rows += [(POINTS + place, POINTS + place + 1, speed) for place, speed in enumerate(new) if speed is not None]
         (folder / "speeds.csv").write_text("".join(f"{','.join(map(str, row))}\n" for row in rows) or "way,kmh\n")
         run_tool("reweigh", folder / "map", folder / "speeds.csv", folder / "new")
         arcs = [domethyme.Network(folder / each).arcs_frame() for each in ("map", "new")]
@@ -156,7 +160,7 @@ def close_ways(data: Any, folder: pathlib.Path) -> Network | None:
     several parts are as large."""
     drawn_map = data.draw(maps())
     convert(drawn_map.text(), folder, "before")
-    roads, closed = model_of(folder / "before"), data.draw(st.sets(st.integers(1, len(drawn_map.ways))))
+    roads, closed = model_of(folder / "before"), data.draw(st.sets(st.integers(WAYS, WAYS + len(drawn_map.ways) - 1)))
     found = without(Drawn(roads, roads, False), lambda arc: arc.way in closed)
     wanted = None if found is None else found.roads
     if wanted is not None:
@@ -259,9 +263,10 @@ class ToolTests(ToolCase):
     def test_closed(self):
         """A direction, a road, and what it cuts off; in the graph, the network, and in another network that is made of that."""
         before = self.arcs("map")
-        said, arcs = self.reweighed("2,1,0\n14,0\n1,2,35\n")
-        self.assertEqual(said, ["reweigh: new: 1 arcs changed, 3 closed, and 0 cut off by these"])
-        self.assertEqual(arcs, {**{ends: weight for ends, weight in before.items() if ends not in ((2, 1), (5, 6), (6, 5))}, (1, 2): 11437})
+        said, arcs = self.reweighed("2,1,0\n14,0\n1,2,35\n1,4,0\n")
+        self.assertEqual(said, ["reweigh: new: 1 arcs changed, 4 closed, and 0 cut off by these"])
+        left = before.keys() - {(2, 1), (5, 6), (6, 5), (1, 5)}  # (an arc of which a part is closed is closed)
+        self.assertEqual(arcs, {**{ends: before[ends] for ends in left}, (1, 2): 11437})
         network = domethyme.Network(self.folder / "new")
         frame = network.arcs_frame()
         self.assertEqual((len(frame), frame["weight"].tolist()), (len(arcs), read_graph(self.folder / "new.gr").weights))
@@ -305,7 +310,7 @@ class ToolTests(ToolCase):
     def test_package(self):
         """Rows, frames and files make the same network."""
         network = domethyme.Network(self.folder / "map")
-        rows = [(1, 2, 30), (5, 4, 7.5), (8, 9, 10)]
+        rows = [(1, 2, 30), (5, 4, 7.5), (8, 9, 1000)]
         self.reweighed("".join(f"{','.join(map(str, row))}\n" for row in rows))
         frame = pandas.DataFrame(rows, columns=["from", "to", "kmh"])
         others = (iter(rows), [2]), (frame.astype({"from": "Int64", "to": "Int64"}), [2])
@@ -352,8 +357,8 @@ def test_plain_rows(tmp_path, rows):
     """Rows of plain numbers, which are read at once, are those that are read one by one: with quotes, and a blank line behind."""
     for names in ("", "from,to,kmh\n", "\ufeffWAY,KMH\n", '"from","to","kmh"\n'):
         found = []
-        for number, text in enumerate((rows, re.sub(r"^([-0-9]+),", r'"\1",', rows, flags=re.M), f"{rows}\n")):
-            (tmp_path / f"{number}.csv").write_text(names + text)
+        for number, text in enumerate((rows, re.sub(r"^([-0-9]+),", r'"\1",', rows, flags=re.M), f"{rows}\n", rows.replace("\n", "\r\n"))):
+            (tmp_path / f"{number}.csv").write_bytes((names + text).encode())
             if names or rows:
                 found.append([[(each.ids.tolist(), each.kmh.tolist(), each.number.tolist()) for each in read_speeds(tmp_path / f"{number}.csv")]])
         assert all(each == found[0] for each in found)

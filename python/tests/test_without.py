@@ -169,7 +169,7 @@ MAP = """<?xml version="1.0"?><osm version="0.6">
 <node id="5" lon="0.01" lat="0.005"/><node id="6" lon="0.04" lat="0"/><node id="7" lon="0.02" lat="0.001"/><node id="8" lon="0.035" lat="0.002"/>
 <way id="11"><nd ref="1"/><nd ref="2"/><tag k="highway" v="primary"/></way>
 <way id="12"><nd ref="2"/><nd ref="7"/><nd ref="3"/><tag k="route" v="ferry"/><tag k="duration" v="DURATION"/><tag k="name" v="Boat"/></way>
-<way id="13"><nd ref="3"/><nd ref="4"/><nd ref="6"/><tag k="highway" v="primary"/></way>
+<way id="13"><nd ref="3"/><nd ref="4"/><nd ref="6"/><tag k="highway" v="primary"/><tag k="bridge" v="yes"/></way>
 <way id="14"><nd ref="1"/><nd ref="5"/><nd ref="2"/><tag k="highway" v="primary"/><tag k="toll" v="yes"/></way>
 <way id="15"><nd ref="4"/><nd ref="8"/><nd ref="6"/><tag k="highway" v="primary"/><tag k="tunnel" v="yes"/></way>
 <way id="16"><nd ref="1"/><nd ref="6"/><tag k="route" v="ferry"/><tag k="motor_vehicle" v="no"/></way>
@@ -197,7 +197,7 @@ class MapTests(ToolCase):
     def test_classes(self):
         arcs = self.network()
         self.assertEqual(sorted({*zip(arcs["osm"], arcs["toll"], arcs["structure"])}),
-                         [(11, "", ""), (12, "", ""), (13, "", ""), (14, "yes", ""), (15, "", "tunnel")])
+                         [(11, "", ""), (12, "", ""), (13, "", "bridge"), (14, "yes", ""), (15, "", "tunnel")])
         for classes, osm in (("ferry", {13, 15}), ("toll", {11, 12, 13, 15}), ("tunnel,toll", {11, 12, 13}), ("motorway", {11, 12, 13, 14, 15})):
             said = self.run_tool("without", "net", classes, "out.gr").stderr
             kept = arcs[arcs["osm"].isin(osm)]
@@ -210,7 +210,8 @@ class MapTests(ToolCase):
         self.network("12", "--tables")
         self.run_tool("to_network", "net.nodes.csv", "net.arcs.csv", "again")
         self.assertEqual(domethyme.Network(self.folder / "again").arcs_frame()["toll"].tolist(), arcs["toll"].tolist())
-        self.write("only.osm", MAP.replace('v="primary"', 'v="motorway"').replace('v="ferry"', 'v="bus"'))
+        only = MAP.replace('v="primary"', 'v="motorway_link"', 1).replace('v="primary"', 'v="motorway"')
+        self.write("only.osm", only.replace('v="ferry"', 'v="bus"'))
         self.run_tool("osm_to_gr", "only.osm", "only", "--keep-islands")
         self.assert_refused("without", "only", "motorway", "out2.gr", says="has no arc without these classes")
         self.assertIn("comes twice", self.run_tool("without", "net", "toll,toll", "out2.gr", status=2).stderr)
