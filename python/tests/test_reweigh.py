@@ -1,6 +1,7 @@
 """New speeds: a network with them has the bytes of one that is made of a map whose maxspeed says the same; what is closed; and what is
 refused. A thousandth of a degree is 111.195 m along the equator."""
 import csv
+import itertools
 import pathlib
 import re
 import tempfile
@@ -74,7 +75,7 @@ SPEEDS = st.one_of(st.integers(1, 130), st.floats(1, 200).map(lambda value: roun
 def maps(draw: Any) -> Map:
     steps = st.tuples(st.integers(-40, 40), st.integers(-40, 40))
     points = [(9.5 + east * 1e-4, 47.1 + north * 1e-4) for east, north in draw(st.lists(steps, min_size=3, max_size=12, unique=True))]
-    points += draw(st.lists(st.sampled_from(points), max_size=3))  # (some lie in one place)
+    points += draw(st.lists(st.sampled_from(points), max_size=draw(st.sampled_from([0, 0, 3]))))  # (some lie in one place)
     ways, end = [], 0
     for _ in range(draw(st.integers(1, 6))):
         line = [end]
@@ -83,6 +84,12 @@ def maps(draw: Any) -> Map:
         end = draw(st.sampled_from(line))
         ways.append(Way(tuple(line), draw(st.sampled_from(["primary", "residential"])), draw(st.integers(0, 4)) == 0, (draw(SPEEDS), draw(SPEEDS))))
     return Map(points, ways)
+
+
+def rows_of_steps(ways: list[Way]) -> list[tuple[float, ...]]:
+    """A row for each step of ways, and one back."""
+    steps = ((pair, way.speeds) for way in ways for pair in itertools.pairwise(way.points))
+    return [(*(POINTS + point for point in pair[::side]), speed) for pair, speeds in steps for side, speed in zip((1, -1), speeds)]
 
 
 def convert(text: str, folder: pathlib.Path, name: str, *words: object) -> None:
@@ -97,18 +104,14 @@ def test_as_the_map_says(data: Any) -> None:
     before = data.draw(maps())
     after = before._replace(ways=[way._replace(speeds=(data.draw(SPEEDS), data.draw(SPEEDS))) for way in before.ways])
     profile, longest = data.draw(st.sampled_from([CAR, TURNS])), data.draw(st.sampled_from([70, 250, 100_000]))
-    rows = []
-    shared: dict[tuple[int, int], set[float]] = {}
-    for way in after.ways:
-        for here, there in zip(way.points, way.points[1:]):
-            for step, speed in (((here, there), way.speeds[0]), ((there, here), way.speeds[1])):
-                rows.append((*(POINTS + point for point in step), speed))
-                shared.setdefault(step, set()).add(speed)
-    is_by_way = any(len(speeds) > 1 for speeds in shared.values()) or data.draw(st.booleans())
-    is_by_way |= len({*after.points}) < len(after.points)  # (in one place points may be of one road, which has no ids there)
-    if is_by_way:
+    rows = rows_of_steps(after.ways)
+    # (in one place points may be of one road, which has no ids there)
+    if data.draw(st.integers(0, 2)) == 0 or len({*after.points}) < len(after.points):
         after = after._replace(ways=[way._replace(speeds=way.speeds[:1] * 2) for way in after.ways])
         rows = [(WAYS + number, way.speeds[0]) for number, way in enumerate(after.ways)]
+    elif len({row[:2] for row in rows}) < len({*rows}):  # (a step of several ways, or of one in both directions)
+        after = after._replace(ways=[way._replace(speeds=after.ways[0].speeds[:1] * 2) for way in after.ways])
+        rows = rows_of_steps(after.ways)
     with tempfile.TemporaryDirectory() as name:
         folder = pathlib.Path(name)
         (folder / "own.json").write_text(profile)
