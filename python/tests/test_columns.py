@@ -16,6 +16,7 @@ from domethyme.dimacs import read_graph
 from domethyme.network import column_file, from_tables, net_file
 from domethyme.network.columns import NO_OSM, OF_NODES
 from domethyme.network.net_file import NodeArrays
+from domethyme.network.zoom_levels import road_class
 from domethyme_service.errors import RequestError
 from domethyme_service.queries import NodeKeys
 
@@ -163,6 +164,7 @@ def test_names_of_columns(tmp_path, nodes, arcs):
     ("lon,lat\n0,0\n0.001,0\n", "from,to,weight\n2,1,1\n0,2,1\n", "arcs, row 3: from 0 isn't from 1 to 2"),
     ("node,lon,lat,key\na,0,0,x\nb,0,0,x\n", "", "nodes, row 3: key 'x' comes twice"),
     ("lon,lat\n-180.1,0\n", "", "nodes, row 2: lon '-180.1' isn't from -180 to 180"),
+    (f"lon,lat,osm\n0,0,{(1 << 63) - 1}\n0,0,-{1 << 63}\n", "", f"nodes, row 3: osm -{1 << 63} isn't from -{(1 << 63) - 1} to {(1 << 63) - 1}"),
     (NODES, ARCS.replace(",50", ",-1"), "arcs, row 2: kmh '-1' isn't from 0 to 1e+12; another row is refused too"),
     (NODES, ARCS.replace("0\n", "x\n"), "arcs, row 2: kmh '5x' is not a number; 2 other rows are refused too"),
     (NODES, "from,to,kmh,oneway\ndepot,shop,50,x\n", "arcs, row 2: oneway 'x' is none of 1, yes, -1, 0, no"),
@@ -178,6 +180,14 @@ def test_rows_that_are_refused(tmp_path, nodes, arcs, says):
     with pytest.raises(domethyme.NetworkError) as refused:
         from_tables.read_arcs(tmp_path / "arcs", from_tables.read_nodes(tmp_path / "nodes"))
     assert str(refused.value) == f"{tmp_path}/{says}"
+
+
+def test_kinds_of_roads():
+    """Those of a kind are shown on maps from one zoom on."""
+    kinds = "motorway trunk", "primary", "secondary", "tertiary", "unclassified residential living_street", "service track"
+    names = [(name, kind) for kind, some in enumerate(kinds) for name in some.split()]
+    assert [road_class(f"{name}{link}") for name, _ in names for link in ("", "_link")] == [kind for _, kind in names for _ in "ab"]
+    assert road_class("") == 5
 
 
 def test_a_line_of_many_points(tmp_path):

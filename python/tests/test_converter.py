@@ -14,7 +14,9 @@ from tool_case import IN_TABLES, PYTHON, SECONDS, TAKES_SIGNALS, VILLAGE, ToolCa
 from domethyme.errors import MapError
 from domethyme.maps import conversion, map_arrays, road_network
 from domethyme.maps.vehicle_profile import read_profile
+from domethyme.network import figures, from_tables, net_file, parallel, table_files
 from domethyme.network import from_tables, net_file, parallel, table_files
+from domethyme.network.columns import UNITS
 
 # A compiler that writes the program to the path behind -o
 BUILT = '#!/bin/sh\necho "$@" >words\nwhile [ "$1" != -o ]; do shift; done\ncp program "$2"\nchmod +x "$2"\n'
@@ -251,6 +253,12 @@ class RoundingTests(unittest.TestCase):
         for digits in (2, 3):
             found = road_network.rounded_exactly(np.array(values), digits).tolist()
             self.assertEqual(found, [round(value, digits) for value in values])
+
+    def test_weights_and_seconds(self):
+        """A weight is at least 1 without its penalty, and half of one is rounded to an even number."""
+        amounts, penalty = np.array([0.2, 0.4, 1.5, 2.5, 1234.4]), np.array([0, 3, 0, 250, 1])
+        self.assertEqual(figures.whole_weights(amounts, 10 * penalty).tolist(), [1, 31, 2, 2502, 1244])
+        self.assertEqual(figures.seconds_of(amounts, penalty).tolist(), [0.0, 0.03, 0.002, 2.502, 1.244])
 
 
 class PlaceTests(ToolCase):

@@ -277,6 +277,7 @@ def check_nearest(hierarchy: domethyme.Hierarchy, network: Network, place: Point
         return
     node, away = hierarchy.nearest(*place, side)
     assert (node if hierarchy.keys is None else hierarchy.keys.node(node)) in nodes and abs(away - metres) < 1e-4
+    assert hierarchy.nearest(*place, side, radius=away) == (node, away)
     many, all_away = hierarchy.nearest(*(np.full((1, 2), each) for each in place), side)
     assert many.tolist() == [[node] * 2] and all_away.tolist() == [[away] * 2]
 

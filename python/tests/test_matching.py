@@ -132,6 +132,7 @@ class VillageTests(ToolCase):
         ]:
             with self.subTest(says), pytest.raises(ValueError, match=re.escape(says)):
                 self.hierarchy.match(**{"trace": self.along(0.0001, 0.0005), **words})
+        self.assertEqual(len(self.hierarchy.match(self.along(0.0001, 0.0005), [3, 3], deviation=[200, 200]).matchings), 1)
 
     def test_tool(self):
         self.write("trace.csv", "lon,name,lat,seconds,deviation\n0.0001,a,0,0,\n0.0005,b,0,9,20\n0.0009,c,0.00001,18,\n0.0013,d,0,200,\n0.0017,e,0,209,\n")

@@ -6,6 +6,7 @@ import subprocess
 import sys
 import tempfile
 import tracemalloc
+import zlib
 from typing import NamedTuple
 
 import numpy as np
@@ -202,6 +203,12 @@ def test_the_memory_that_a_file_takes(tmp_path, monkeypatch):
     with open(tmp_path / "file", "rb", buffering=0) as file:
         assert peak_of(lambda: hierarchy_file.pread_all(file.fileno(), 0, 1 << 20)) < 1.1 * (1 << 20)
         assert hierarchy_file.pread_all(file.fileno(), 1 << 19, 1 << 20) == bytes(1 << 19)
+
+
+def test_the_checksum_of_a_large_table(tmp_path):
+    """Of several parts of a mebibyte."""
+    (tmp_path / "table").write_bytes(bytes(range(251)) * 9000)
+    assert net_file.checksum_of(tmp_path / "table") == zlib.crc32(bytes(range(251)) * 9000)
 
 
 def test_reads_that_end_early(tmp_path, monkeypatch):

@@ -173,14 +173,15 @@ class SafeTests(ToolCase):
         self.write("n.csv", "lon,lat\n-0.001,0\n0,0\n")
         self.write("a.csv", "from,to,weight\n1,2,7\n")
         self.run_tool("to_network", "n.csv", "a.csv", "net")
-        self.write("trips.csv", 'label,from_lon,from_lat,to_lon,to_lat\n"=cmd|x",-0.001,0,0,0\n')
+        self.write("trips.csv", '"=1+label",from_lon,from_lat,to_lon,to_lat\n"=cmd|x",-0.001,0,0,0\n')
         self.run_tool("nearest", "net", "trips.csv", "--snapped", "snapped.csv", "-o", "pairs")
-        self.assertEqual((self.folder / "snapped.csv").read_text().splitlines()[1], "'=cmd|x,-0.001,0,0,0,1,0.0,2,0.0")
+        rows = (self.folder / "snapped.csv").read_text().splitlines()
+        self.assertEqual((rows[0].split(",")[0], rows[1]), ("'=1+label", "'=cmd|x,-0.001,0,0,0,1,0.0,2,0.0"))
         self.write("answers", "r 1 2 7 1 1 2\n")
         table = self.run_tool("to_geojson", "net", "answers", "--trips", "snapped.csv", "--format", "csv").stdout
         self.assertTrue(table.splitlines()[1].startswith("'=cmd|x,-0.001,"), table)
         lines = self.run_tool("to_geojson", "net", "answers", "--trips", "snapped.csv", "--format", "lines").stdout
-        self.assertEqual(json.loads(lines)["properties"]["label"], "=cmd|x")
+        self.assertEqual(json.loads(lines)["properties"]["=1+label"], "=cmd|x")
 
 
 class WholeTests(ServiceCase):

@@ -237,6 +237,8 @@ FAULTS = [
     (from_tables.read_co, "n.co", "v 1 0 0\n", ", row 1: is no line of coordinates before the line `p aux sp co N`"),
     (from_tables.read_co, "n.co", "p aux sp co 1\nv 2 0 0\n", ", row 2: node 2 isn't from 1 to 1"),
     (from_tables.read_co, "n.co", "p aux sp co 2\nv 1 0 0\n", ": has no coordinates of node 2"),
+    (from_tables.read_co, "n.co", "p aux sp co 1\nv 1 0 0 0\n", ", row 2: is no line of coordinates"),
+    (from_tables.read_co, "n.co", "p aux sp co 1\np aux sp co 1\nv 1 0 0\n", ", row 2: is no line of coordinates"),
     (from_tables.read_co, "n.co", "p aux sp p2p 2\n", ", row 1: is no problem line `p aux sp co NUMBER`"),
     (dimacs.read_graph, "n.gr", "c only\n", ": has no line `p sp NODES ARCS`"),
     (dimacs.read_graph, "n.gr", "a 1 2 3\n", ", row 1: is no line of a graph"),
