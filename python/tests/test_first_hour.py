@@ -176,7 +176,6 @@ BOTH = "from,to,kmh,km,oneway\n7,8,50,0.2,no\n8,9,50,0.3,no\n9,10,30,90,1\n"
 @pytest.mark.parametrize("nodes, arcs, words, status, says", [
     (NODES, BOTH.replace(",no", "").replace(",1\n", "\n").replace(",oneway", ""), [], 0, ["no arc has one back", "1 of 4 nodes reach one another, and 3 don't"]),
     (NODES, BOTH.replace("0.2", "200"), [], 0, ["km, of 2 arcs are over 100 times", "3 of 4 nodes reach one another, and 1 don't, of which 0 have no arc"]),
-    (NODES, BOTH + "7,8,50,0.2,no\n", [], 0, ["1 rows have the ends and figures of earlier ones"]),
     (NODES + "11,0,0\n", "from,to,seconds,km,oneway\n7,8,20,0.2,no\n8,9,0,0.1,no\n9,10,20,0.5,1\n", [], 0, [
         "3 of 5 nodes reach one another, and 2 don't, of which 1 have no arc", "to the greatest: 100, 100, 200, 200, 500\n",
         "km/h of arcs, from the least by quartiles to the greatest: 36, 36, 36, 63, 90\n"]),
