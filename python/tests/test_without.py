@@ -155,12 +155,17 @@ def serve(prefix: pathlib.Path, excluded: dict[frozenset[str], str], **more: Any
 
 @pytest.mark.parametrize("turn", [1, -1])
 def test_a_ferry_beside_a_bridge(tmp_path, turn):
-    """Of one line: places are on the bridge, whichever comes first in the table."""
+    """Of one line: places are on the bridge, whichever comes first in the table, and on the ferry alone where the bridge is left out."""
     (tmp_path / "nodes.csv").write_text("lon,lat\n0,0\n0.01,0\n")
-    (tmp_path / "arcs.csv").write_text("from,to,seconds,highway\n" + "".join(["1,2,600,ferry\n2,1,600,ferry\n", "1,2,60,primary\n2,1,60,primary\n"][::turn]))
+    rows = "1,2,600,ferry,\n2,1,600,ferry,\n", "1,2,60,primary,yes\n2,1,60,primary,yes\n"
+    (tmp_path / "arcs.csv").write_text("from,to,seconds,highway,toll\n" + "".join(rows[::turn]))
     run_tool("to_network", tmp_path / "nodes.csv", tmp_path / "arcs.csv", tmp_path / "net")
     (point,) = domethyme.Network(tmp_path / "net").points_on_roads((0.004, 0.0))
     assert point.fraction == pytest.approx(0.4)
+    free = domethyme.Network(tmp_path / "net", exclude=["toll"])
+    assert len(free.points_on_roads((0.004, 0.0), snapping="any")) == 1
+    with pytest.raises(domethyme.NoSuchNode, match="place 0 has no road"):
+        free.points_on_roads((0.004, 0.0))
 
 
 # Two islands with a road each, a ferry with a duration and one without, a toll bridge, and a road in a tunnel.

@@ -345,7 +345,8 @@ class RoadIndex:
         first, is_ferry = self.arrays.edge_first, self.are_ferries
         found = np.asarray(first[edges] < first[edges + 1]) if self.arrays.is_partial else np.ones(len(edges), dtype=bool)
         if not is_any and self._has_ferries:
-            for row in np.flatnonzero(is_ferry(self.arrays.first_arcs(edges))).tolist():
+            kept = np.flatnonzero(found)
+            for row in kept[is_ferry(self.arrays.edge_arcs[first[edges[kept]]])].tolist():
                 begin, end = first[int(edges[row]) : int(edges[row]) + 2].tolist()
                 found[row] = not is_ferry(self.arrays.edge_arcs[begin:end]).all()
         return found
