@@ -127,24 +127,32 @@ def test_as_the_map_says(data: Any) -> None:
 @drawn(40)
 @given(st.data())
 def test_a_part_of_a_road(data: Any) -> None:
-    """A road whose steps have different new speeds, or none, takes as long as its steps do one after the other, to a rounding."""
+    """A road whose steps have different new speeds, or none, takes as long as its steps do one after the other, to a rounding. A turn that
+    leads into it costs what it did."""
     steps = [(9.5 + 1e-4 * place, 47.1 + 1e-4 * data.draw(st.integers(0, 30))) for place in range(0, 8 * data.draw(st.integers(2, 6)), 8)]
     old, longest = data.draw(SPEEDS), data.draw(st.sampled_from([40, 100_000]))
     new = [data.draw(st.one_of(st.none(), SPEEDS)) for _ in steps[1:]]
     of_way = data.draw(st.one_of(st.none(), SPEEDS))
     with tempfile.TemporaryDirectory() as name:
         folder = pathlib.Path(name)
-        convert(Map(steps, [Way(tuple(range(len(steps))), "primary", False, (old, old))]).text(), folder, "map", "--longest-arc", longest)
+        (folder / "own.json").write_text(data.draw(st.sampled_from([CAR, TURNS])))
+        drawn_map = Map(steps, [Way(tuple(range(len(steps))), "primary", False, (old, old))])
+        convert(drawn_map.text(), folder, "map", "--longest-arc", longest, "--profile", folder / "own.json")
         rows: list[tuple[float, ...]] = [] if of_way is None else [(WAYS, of_way)]
         rows += [(POINTS + place, POINTS + place + 1, speed) for place, speed in enumerate(new) if speed is not None]
         (folder / "speeds.csv").write_text("".join(f"{','.join(map(str, row))}\n" for row in rows) or "way,kmh\n")
         run_tool("reweigh", folder / "map", folder / "speeds.csv", folder / "new")
-        arcs = [domethyme.Network(folder / each).arcs_frame() for each in ("map", "new")]
+        networks = [domethyme.Network(folder / each) for each in ("map", "new")]
+        arcs, (before, penalty) = [each.arcs_frame() for each in networks], (each.arrays.arc_penalty[:] for each in networks)
+        assert (before == penalty).all()
         first, last = steps[0], steps[-1]
         metres = [metres_between(*step) for step in zip(steps, steps[1:])]
         wanted = sum(3600 * step / (speed or of_way or old) for step, speed in zip(metres, new))
         back = sum(3600 * step / (of_way or old) for step in metres)
         frame = arcs[1].assign(is_along=[is_along(line, first, last) for line in arcs[1]["WKT"]])
+        frame = frame.assign(weight=frame["weight"] - 10 * penalty, seconds=(frame["seconds"] - penalty / 100).round(3))
+        frame = frame[["WKT", "weight", "seconds", "is_along"]].drop_duplicates()
+        assert frame["WKT"].is_unique
         sums = frame.groupby("is_along")["weight"].sum()
         # (a weight is rounded to a millisecond, and the place of a cut to some centimetres of the road)
         most = len(frame) * (1 + 0.02 * 3600 / min(filter(None, [old, of_way, *new])))
