@@ -304,6 +304,14 @@ class SmallTests(BinaryCase):
         self.assert_same(net_file.read(self.folder / "old.net"), arrays)
         self.assertEqual((frames[0], columns["about"][2:5].tolist()), (frames[1], [0, 3, 3]))
 
+    def test_checksums(self):
+        """They change with the ends and with the weight of an arc."""
+        nodes, sums = from_tables.read_nodes(self.folder / "n.csv"), set()
+        for row in ("2,3,9", "2,2,9", "3,3,9", "2,3,90"):
+            arcs = from_tables.read_arcs(self.write("a.csv", ARCS.replace("2,3,9", row)), nodes)
+            sums.add(net_file.map_tempfile(net_file.build_arrays(nodes.arrays, arcs), "net").checksum)
+        self.assertEqual([*map(len, sums)], [8] * 4)
+
     def test_a_route_that_meets_a_damaged_block(self):
         """The file opens, and what isn't damaged is answered; what is read of the damaged block is refused, each time."""
         arrays = net_file.read(str(self.path))

@@ -134,6 +134,7 @@ def check_line(asked: Asked, route: Any) -> None:
     assert all(abs(b[0] - a[0]) <= 180 for part in parts for a, b in zip(part, part[1:]))
     found = [(lon, lat) for part in parts for lon, lat in part if len(parts) == 1 or abs(lon) != 180]
     assert len(found) > 1 and is_same_line(found, points, 1e-6), (found, points)
+    assert len({*found}) == 1 or all(one != other for one, other in zip(found, found[1:])) or len(parts) > 1
 
 
 def check_table(asked: Asked, sources: list[int], targets: list[int], forms: list[str], missing: float | None) -> None:

@@ -141,6 +141,15 @@ class DimacsTests(ToolCase):
             with self.subTest(number=number):
                 self.assertEqual(self.made(co, gr, f"net{number}"), found)
 
+    def test_a_network_of_dimacs_files(self):
+        """By the name of the file of coordinates, without others."""
+        self.write("x.co", self.CO)
+        self.write("x.gr", f"c attribution: Us\n{self.GR}")
+        network = domethyme.Network(self.folder / "x.co")
+        arcs = network.arcs_frame()[["from", "to", "weight", "seconds", "metres"]].values.tolist()
+        self.assertEqual(arcs, [[0, 1, 7, 0, 111.2], [1, 0, 7, 0, 111.2], [1, 2, 9, 0, 222.39]])
+        self.assertEqual((network.arrays.texts[0], network.arrays.unit, network.lat.tolist()), ("Us", "weight", [0, 0, 0.002]))
+
     def test_dimacs_files_that_are_refused(self):
         for co, gr, says in [
             (self.CO.replace("v 3 1000 2000\n", ""), self.GR, "x.co: has no coordinates of node 3"),
