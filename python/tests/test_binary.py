@@ -1,4 +1,5 @@
 """Tests of the mapped files of networks: the same as the tables, and what becomes of one that is older, damaged or hostile."""
+import gc
 import os
 import re
 import shutil
@@ -181,18 +182,19 @@ def mapped(tmp_path, monkeypatch):
     slice(None, None, -1), slice(23, 8, -5), np.array([3, 20]), np.array([[16], [9]]), np.array([], int), np.arange(24) % 8 == 7
 ], ids=repr)
 def test_what_an_index_takes_is_verified(mapped, tmp_path, index, damaged):
-    """Also a block that was verified before the file was written; another that is damaged is no hindrance."""
+    """Each time, and also a block that was verified before the file was written; another that is damaged is no hindrance."""
     column, rows, path = mapped(range(24)), np.arange(24), tmp_path / "array"
     assert column[3] == 3
     whole = bytearray(path.read_bytes())
     whole[column_file.HEAD.itemsize + 64 * damaged] ^= 99
     path.write_bytes(whole)
     os.utime(path, (1, 1))
-    if damaged in np.atleast_1d(rows[index]) // 8:
-        with pytest.raises(domethyme.NetworkError, match="a has another checksum"):
-            column[index]
-    else:
-        assert column[index].tolist() == rows[index].tolist()
+    for _ in range(2):
+        if damaged in np.atleast_1d(rows[index]) // 8:
+            with pytest.raises(domethyme.NetworkError, match="a has another checksum"):
+                column[index]
+        else:
+            assert column[index].tolist() == rows[index].tolist()
 
 
 @pytest.mark.parametrize("numbers, spec, says", [
@@ -230,9 +232,7 @@ class SmallTests(BinaryCase):
             else:
                 self.assertEqual(found, before, place)
         self.path.write_bytes(whole)
-        padding = sum(
-            -column[:].nbytes % column_file.ALIGNED for column in net_file.read(str(self.path)).file.columns.values()
-        )
+        padding = sum(-column[:].nbytes % column_file.ALIGNED for column in net_file.read(str(self.path)).file.columns.values())
         self.assertEqual(refused, len(whole) - padding)
 
     def test_each_length(self):
@@ -280,9 +280,7 @@ class SmallTests(BinaryCase):
             ("edge_keys", lambda old: old[:-1])
         ]:
             with open(self.path, "wb") as file:
-                column_file.write(
-                    file, net_file.FORMS[4], 4, {**before, name: change(before[name])}.items()
-                )
+                column_file.write(file, net_file.FORMS[4], 4, {**before, name: change(before[name])}.items())
             with self.subTest(name=name):
                 self.refused("is damaged: ")
 
@@ -304,6 +302,14 @@ class SmallTests(BinaryCase):
         self.assert_same(net_file.read(self.folder / "old.net"), arrays)
         self.assertEqual((frames[0], columns["about"][2:5].tolist()), (frames[1], [0, 3, 3]))
 
+    def test_files_are_closed(self):
+        """Once nobody has a network that was read of them."""
+        before = len(os.listdir("/proc/self/fd"))
+        for _ in range(3):
+            net_file.read(str(self.path))
+        gc.collect()
+        self.assertLessEqual(len(os.listdir("/proc/self/fd")), before)
+
     def test_checksums(self):
         """They change with the ends and with the weight of an arc."""
         nodes, sums = from_tables.read_nodes(self.folder / "n.csv"), set()
@@ -311,19 +317,6 @@ class SmallTests(BinaryCase):
             arcs = from_tables.read_arcs(self.write("a.csv", ARCS.replace("2,3,9", row)), nodes)
             sums.add(net_file.map_tempfile(net_file.build_arrays(nodes.arrays, arcs), "net").checksum)
         self.assertEqual([*map(len, sums)], [8] * 4)
-
-    def test_a_route_that_meets_a_damaged_block(self):
-        """The file opens, and what isn't damaged is answered; what is read of the damaged block is refused, each time."""
-        arrays = net_file.read(str(self.path))
-        begin = self.path.read_bytes().index(arrays.arc_weight[:].tobytes())
-        with open(self.path, "r+b") as file:
-            file.seek(begin)
-            file.write(b"\x0b")
-        roads = RoadIndex(self.prefix)
-        self.assertEqual(roads.lightest((0, 1, 2)).tolist(), [0, 2])
-        for _ in range(2):
-            with self.assertRaisesRegex(domethyme.NetworkError, r"v\.net: is damaged: arc_weight has another checksum"):
-                roads.arc(0)
 
 
 class MemoryTests(ToolCase):

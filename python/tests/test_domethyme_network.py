@@ -45,14 +45,9 @@ class NetworkTests(ToolCase):
         self.assertEqual([network.keys().node(key) for key in (7, 8)], [0, 1])
 
     def test_files_that_are_refused(self):
-        for name, text, says in [
-            ("a.nodes.csv", "node,osm,lon,lat\n2,1,0,0\n", "a.nodes.csv, row 2: has node '2' where node 1 comes next"),
-            ("a.nodes.csv", "node,osm,lon\n1,1,0\n", "row 1: has no column lat; its columns are node, osm, lon"),
-            ("a.nodes.csv", "node,osm,lon,lat\n", "has 0 nodes"),
-        ]:
-            self.write(name, text)
-            with self.subTest(says=says), self.assertRaisesRegex(domethyme.NetworkError, says):
-                domethyme.Network(self.folder / "a").nearest(0, 0)
+        self.write("a.nodes.csv", "node,osm,lon\n1,1,0\n")
+        with self.assertRaisesRegex(domethyme.NetworkError, "row 1: has no column lat; its columns are node, osm, lon"):
+            domethyme.Network(self.folder / "a").nearest(0, 0)
         with self.assertRaisesRegex(domethyme.NetworkError, "b.net: No such file"):
             domethyme.Network(self.folder / "b")
         for name in ("v.gr", "v.net", "v.nodes.csv", "v.arcs.csv"):

@@ -91,6 +91,10 @@ def check_pairs(asked: Asked, pairs: list[tuple[int, int]], form: str) -> None:
     assert routes.arcs.tolist() == [-1 if count is None else count for count in arcs]
     for route, (source, target), length in zip(routes, by_key, wanted):
         assert len(route) == 0 if length is None else is_route(asked, list(route), source, target, length)
+    features = asked.hierarchy.network.geojson(routes)["features"]
+    shown = [[feature["properties"][name] for name in ("from", "to", "length", "arcs")] for feature in features]
+    assert shown == [[*pair, *figures] for pair, *figures in zip(by_key, wanted, arcs)]
+    assert [feature["geometry"] is None for feature in features] == [length is None for length in wanted]
     frame = routes.to_frame()
     columns = [*zip(*by_key), wanted, arcs]
     assert [[None if value is pandas.NA else value for value in frame[name]] for name in frame] == [*map(list, columns)]

@@ -57,14 +57,6 @@ class TableTests(ToolCase):
         self.run_tool("to_network", "nodes.csv", "arcs.csv", "net", *words)
         return net_file.read(str(self.folder / "net.net"))
 
-    def test_nodes_without_names(self):
-        self.write("nodes.csv", "lat,lon,osm\n0,0,17\n0,0.001,\n0.002,0.001,-5\n")
-        self.write("arcs.csv", "from,to,weight\n1,2,3\n3,1,4\n")
-        network = self.made()
-        self.assertEqual(network.node_osm[:].tolist(), [17, NO_OSM, -5])
-        self.assertEqual((network.arc_from[:].tolist(), network.arc_to[:].tolist()), ([0, 2], [1, 0]))
-        self.assertEqual(domethyme.Network(self.folder / "net").keys().node(17), 0)
-
     def test_tables_that_it_writes(self):
         for words, said in ((("--attribution", " a\n b"), "a b"), ((), "a b"), (("--attribution", ""), "")):
             self.made("--tables", *words)
@@ -104,7 +96,7 @@ class TableTests(ToolCase):
             (None, "from,to,weight\ndepot,shop,1.5\n", "arcs.csv, row 2: weight '1.5' isn't an integer"),
             (None, "from,to,weight\ndepot,shop,4294967296\n", "arcs.csv, row 2: weight 4294967296 isn't from 0 to 4294967295"),
             (None, "from,to,kmh\ndepot,shop,0\n", "arcs.csv, row 2: kmh is 0"),
-            (None, "from,to,seconds\ndepot,shop,1e9\n", "arcs.csv, row 2: would weigh more than 4294967295"),
+            (None, "from,to,seconds\ndepot,shop,1\nshop,depot,1e9\n", "arcs.csv, row 3: would weigh more than 4294967295"),
             (None, 'from,to,weight,WKT\ndepot,shop,1,"LINESTRING (0.5 0, 0.001 0)"\n', "arcs.csv, row 2: its line ends 55,598 m from its node"),
             (None, 'from,to,weight,WKT\ndepot,shop,1,"LINESTRING (0 0, 0 inf)"\n', "arcs.csv, row 2: WKT 'LINESTRING (0 0, 0 inf)' has what"),
             (None, "from,to,weight,WKT\ndepot,shop,1,POINT (0 0)\n", "arcs.csv, row 2: WKT 'POINT (0 0)' is no line"),

@@ -215,6 +215,7 @@ class Tables(SharedCase):
             shown = repr(text if len(text) <= 40 else text[:40] + "..")
             self.assert_fault(f"f, row 1: n {shown} isn't an integer", csv_tables.parse_int, text, "n", "f", 1)
         self.assert_fault("f, row 1: n 6 isn't from 0 to 5", csv_tables.parse_int, "6", "n", "f", 1, 0, 5)
+        self.assert_fault("f, row 1: n -1 isn't from 0 to 4294967295", csv_tables.parse_int, "-1", "n", "f", 1)
         self.assert_fault(
             "f, row 1: lon '181' isn't from -180 to 180", csv_tables.parse_float, "181", "lon", "f", 1, -180, 180
         )
