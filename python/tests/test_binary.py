@@ -310,6 +310,16 @@ class SmallTests(BinaryCase):
         gc.collect()
         self.assertLessEqual(len(os.listdir("/proc/self/fd")), before)
 
+    def test_all_blocks_at_once(self):
+        """As the service verifies them before it begins, where the file has no more bytes than are said."""
+        whole = self.path.read_bytes()
+        begin = whole.index(net_file.read(str(self.path)).points[:].tobytes())
+        self.path.write_bytes(whole[:begin] + b"\x77" + whole[begin + 1 :])
+        file = net_file.read(str(self.path)).file
+        file.verify(len(whole) - 1)
+        with self.assertRaisesRegex(domethyme.NetworkError, "v.net: is damaged: points has another checksum"):
+            file.verify(len(whole))
+
     def test_checksums(self):
         """They change with the ends and with the weight of an arc."""
         nodes, sums = from_tables.read_nodes(self.folder / "n.csv"), set()

@@ -228,7 +228,7 @@ def test_keys_of_a_table_that_was_replaced(tmp_path):
     (tmp_path / "firm.arcs.csv").write_text("from,to,kmh\na,b,50\n")
     subprocess.run([TOOLS / "to_network", table, "firm.arcs.csv", "firm"], cwd=tmp_path, check=True, capture_output=True)
     network = domethyme.Network(tmp_path / "firm")
-    assert (network.keys("shop").node("south"), network.keys().node("b")) == (1, 1)
+    assert (network.keys("shop").node("south"), network.keys().node("b"), network.keys("key").node("b")) == (1, 1, 1)
     table.write_text("node,lon,lat,shop\nb,0.001,0,south\na,0,0,north\n")
     assert network.keys().node("b") == 1
     with pytest.raises(domethyme.NetworkError, match="firm.nodes.csv: isn't the table of the nodes that .*firm.net has"):
