@@ -96,6 +96,7 @@ class OtherTests(BinaryCase):
         self.assertTrue(net_file.is_current(self.prefix))
         text = (self.folder / "v.nodes.csv").read_text()
         self.write("v.nodes.csv", "\ufeff" + text.rstrip("\n"))
+        arcs.write_bytes(whole.replace(b"\n", b"\r\n"))  # (as other programs write them)
         os.utime(self.folder / "v.nodes.csv", (1, 1))
         self.assertFalse(net_file.is_current(self.prefix))
         self.assertEqual(len(from_tables.load_network(self.prefix).node_osm), text.count("\n") - 1)
@@ -185,10 +186,10 @@ def test_what_an_index_takes_is_verified(mapped, tmp_path, index, damaged):
     """Each time, and also a block that was verified before the file was written; another that is damaged is no hindrance."""
     column, rows, path = mapped(range(24)), np.arange(24), tmp_path / "array"
     assert column[3] == 3
-    whole = bytearray(path.read_bytes())
+    whole, before = bytearray(path.read_bytes()), os.stat(path)
     whole[column_file.HEAD.itemsize + 64 * damaged] ^= 99
     path.write_bytes(whole)
-    os.utime(path, (1, 1))
+    os.utime(path, ns=(before.st_atime_ns, before.st_mtime_ns + 1))
     for _ in range(2):
         if damaged in np.atleast_1d(rows[index]) // 8:
             with pytest.raises(domethyme.NetworkError, match="a has another checksum"):

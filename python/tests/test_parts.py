@@ -6,6 +6,7 @@ import subprocess
 import sys
 import tempfile
 import tracemalloc
+import types
 import zlib
 from typing import NamedTuple
 
@@ -209,6 +210,13 @@ def test_the_checksum_of_a_large_table(tmp_path):
     """Of several parts of a mebibyte."""
     (tmp_path / "table").write_bytes(bytes(range(251)) * 9000)
     assert net_file.checksum_of(tmp_path / "table") == zlib.crc32(bytes(range(251)) * 9000)
+
+
+@pytest.mark.parametrize("mtime, ctime, is_younger", [(5, 5, False), (6, 0, True), (0, 6, True), (4, 5, False)])
+def test_files_that_are_younger(mtime, ctime, is_younger):
+    """By a nanosecond, of the time that a file bears, or of its last change."""
+    stats = [types.SimpleNamespace(st_mtime_ns=one, st_ctime_ns=other) for one, other in ((mtime, ctime), (5, 5))]
+    assert net_file.is_younger(*stats) == is_younger
 
 
 def test_reads_that_end_early(tmp_path, monkeypatch):

@@ -324,7 +324,7 @@ class ToolTests(ToolCase):
         rows = [(1, 2, 30), (5, 4, 7.5), (8, 9, 1000)]
         self.reweighed("".join(f"{','.join(map(str, row))}\n" for row in rows))
         frame = pandas.DataFrame(rows, columns=["from", "to", "kmh"], index=[9, 8, 7])
-        others = (iter(rows), [2]), (frame.astype({"from": "Int64", "to": "Int64"}), [2])
+        others = (iter(rows), [2]), (frame.astype({"from": "Int64", "to": "Int64"}), [2]), (str(self.folder / "speeds.csv"), [3])
         for speeds, unmatched in ((rows, [2]), (np.array(rows), None), (frame, [2]), (self.folder / "speeds.csv", [3]), *others):
             if unmatched is None:
                 with self.assertRaisesRegex(ValueError, "ids have to be integers"):
