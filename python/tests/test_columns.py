@@ -1,5 +1,5 @@
-"""Tests of the columns of a user's own tables: names, what is refused, keys, and gzip. A thousandth of a degree is 111.195 m along the
-equator."""
+"""Tests of the columns of a user's own tables: names, what is refused, keys, and gzip. A thousandth of a degree is 111.195 m along
+the equator."""
 import csv
 import gzip
 import io
@@ -21,6 +21,7 @@ from domethyme_service.errors import RequestError
 from domethyme_service.queries import NodeKeys
 
 NODES = "node,lon,lat\ndepot,0,0\nshop,0.001,0\nfarm,0.001,0.002\n"
+MOST = (1 << 63) - 1
 ARCS = "from,to,kmh\ndepot,shop,50\nshop,depot,50\nshop,farm,30\n"
 
 
@@ -127,8 +128,9 @@ def test_names_of_columns(tmp_path, nodes, arcs, unused):
     found = from_tables.read_arcs(paths[1], read, say=said.append).columns
     assert read.arrays.places.tolist() == [[2_500_000, 470_000_000], [5_000_000, 470_000_000]]
     assert [found[f"arc_{name}"].tolist() for name in names] == [[1], [0], [2_000_000], [20_000], [0]]
-    own = *zip(nodes.split(","), ("node", "lon", "lat"), [paths[0]] * 3), *zip(arcs.split(","), (*names[:2], "metres", "kmh"), [paths[1]] * 4)
-    wanted = [f"{path}: column {name} is taken as {word}" for name, word, path in own if name.lower() != word]
+    words = ("node", "lon", "lat"), (*names[:2], "metres", "kmh")
+    own = [(path, *pair) for path, head, some in zip(paths, (nodes, arcs), words) for pair in zip(head.split(","), some)]
+    wanted = [f"{path}: column {name} is taken as {word}" for path, name, word in own if name.lower() != word]
     assert sorted(said) == sorted([*wanted, *(f"{path}: columns not used: {some}" for path, some in zip(paths, unused))])
 
 
@@ -140,7 +142,7 @@ def test_names_of_columns(tmp_path, nodes, arcs, unused):
         ("180.1,0", "lon '180.1' isn't from -180 to 180"), ("-180.1,0", "lon '-180.1' isn't from -180 to 180"),
         ("0,90.1", "lat '90.1' isn't from -90 to 90"), ("0,-90.1", "lat '-90.1' isn't from -90 to 90"))),
     (NODES, "from,to,weight\ndepot,shop,-1\n", "arcs, row 2: weight -1 isn't from 0 to 4294967295"),
-    (f"lon,lat,osm\n0,0,{(1 << 63) - 1}\n0,0,-{1 << 63}\n", "", f"nodes, row 3: osm -{1 << 63} isn't from -{(1 << 63) - 1} to {(1 << 63) - 1}"),
+    (f"lon,lat,osm\n0,0,{MOST}\n0,0,-{MOST + 1}\n", "", f"nodes, row 3: osm -{MOST + 1} isn't from -{MOST} to {MOST}"),
     (NODES, ARCS.replace(",50", ",-1"), "arcs, row 2: kmh '-1' isn't from 0 to 1e+12; another row is refused too"),
     (NODES, ARCS.replace("0\n", "x\n"), "arcs, row 2: kmh '5x' is not a number; 2 other rows are refused too"),
     (NODES, "from,to,kmh,oneway\ndepot,shop,50,x\n", "arcs, row 2: oneway 'x' is none of 1, yes, -1, 0, no"),

@@ -37,7 +37,8 @@ SETTINGS = list(itertools.product((True, False), ("any", "first"), ("any", "last
 def test_as_the_model(data: Any) -> None:
     made = data.draw(networks())
     spots = data.draw(places(made.roads, 5))
-    bearings = data.draw(st.lists(st.sampled_from([None, None, (0, 60), (90, 20), (270, 180), (360, 0)]), min_size=len(spots), max_size=len(spots)))
+    some = st.sampled_from([None, None, (0, 60), (90, 20), (270, 180), (360, 0)])
+    bearings = data.draw(st.lists(some, min_size=len(spots), max_size=len(spots)))
     approaches = data.draw(st.lists(st.sampled_from([None, "unrestricted", "curb"]), min_size=len(spots), max_size=len(spots)))
     radiuses = data.draw(st.lists(st.sampled_from([None, 60.5, math.inf]), min_size=len(spots), max_size=len(spots)))
     if data.draw(st.integers(0, 4)) == 0:

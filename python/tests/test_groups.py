@@ -25,8 +25,8 @@ def test_groups(counts, begins, group, position, kind):
 
 
 @pytest.mark.parametrize("groups, is_back, bounds, rows", [
-    ([2, 0, 1, 2], [True, False, True, False], [0, 3, 5, 5, 8], [4, 3, 2, 0, 1, 2, 3, 4]), ([0, 2], True, [0, 2, 5], [1, 0, 4, 3, 2]),
-    ([1], False, [0, 0], []), ([], False, [0], []),
+    ([2, 0, 1, 2], [True, False, True, False], [0, 3, 5, 5, 8], [4, 3, 2, 0, 1, 2, 3, 4]),
+    ([0, 2], True, [0, 2, 5], [1, 0, 4, 3, 2]), ([1], False, [0, 0], []), ([], False, [0], []),
 ])
 def test_rows_of_groups(groups, is_back, bounds, rows):
     found = rows_of_groups(np.array([0, 2, 2, 5]), np.array(groups, np.int64), is_back)

@@ -36,8 +36,8 @@ def test_no_output_is_an_input(tmp_path, monkeypatch, call, outputs):
     """By none of its names: the call is refused before anything is read, and nothing is written."""
     monkeypatch.chdir(tmp_path)
     tool, *words = call.split()
-    inputs = "net.rch", "answers", ".csv", ".json", ".co"
-    files = [*(OF_NETWORK if "net" in words else []), *(word for word in words if word.endswith(inputs)), *(["x.gr"] if "x.co" in words else [])]
+    inputs, beside = ("net.rch", "answers", ".csv", ".json", ".co"), {"net": OF_NETWORK, "x.co": ["x.gr"]}
+    files = [*(name for word in words for name in beside.get(word, [])), *(word for word in words if word.endswith(inputs))]
     for name in files:
         (tmp_path / name).write_text(name)
     with pytest.raises((domethyme.DomethymeError, ValueError)):  # (of the files, not of the words)

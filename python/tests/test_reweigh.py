@@ -127,8 +127,8 @@ def test_as_the_map_says(data: Any) -> None:
 @drawn(40)
 @given(st.data())
 def test_a_part_of_a_road(data: Any) -> None:
-    """A road whose steps have different new speeds, or none, takes as long as its steps do one after the other, to a rounding. A turn that
-    leads into it costs what it did."""
+    """A road whose steps have different new speeds, or none, takes as long as its steps do one after the other, to a rounding. A
+    turn that leads into it costs what it did."""
     steps = [(9.5 + 1e-4 * place, 47.1 + 1e-4 * data.draw(st.integers(0, 30))) for place in range(0, 8 * data.draw(st.integers(2, 6)), 8)]
     old, longest = data.draw(SPEEDS), data.draw(st.sampled_from([40, 100_000]))
     new = [data.draw(st.one_of(st.none(), SPEEDS)) for _ in steps[1:]]
@@ -368,7 +368,8 @@ def test_plain_rows(tmp_path, rows):
     """Rows of plain numbers, which are read at once, are those that are read one by one: with quotes, and a blank line behind."""
     for names in ("", "from,to,kmh\n", "\ufeffWAY,KMH\n", '"from","to","kmh"\n'):
         found = []
-        for number, text in enumerate((rows, re.sub(r"^([-0-9]+),", r'"\1",', rows, flags=re.M), f"{rows}\n", rows.replace("\n", "\r\n"))):
+        quoted = re.sub(r"^([-0-9]+),", r'"\1",', rows, flags=re.M)
+        for number, text in enumerate((rows, quoted, f"{rows}\n", rows.replace("\n", "\r\n"))):
             (tmp_path / f"{number}.csv").write_bytes((names + text).encode())
             if names or rows:
                 found.append([[(each.ids.tolist(), each.kmh.tolist(), each.number.tolist()) for each in read_speeds(tmp_path / f"{number}.csv")]])

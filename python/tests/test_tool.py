@@ -196,7 +196,7 @@ class Tables(SharedCase):
         self.assert_table_fault(", row 2: isn't CSV: unexpected end of data", b'a,b\n"1,2\n')
 
     def test_gzip(self):
-        """A file, and standard input: whole, cut off, and with a byte changed in what is packed, in its checksum and in its length."""
+        """A file, and standard input: whole, cut off, and with a byte changed in what is packed, in its checksum and its length."""
         path, packed = self.folder / "table.csv", gzip.compress(b"a,b\n1,2\n", mtime=0)
         changed = [packed[:place] + bytes([packed[place] ^ 255]) + packed[place:][1:] for place in (10, -8, -4)]
         for data in (packed, packed[:-9], *changed):
@@ -287,7 +287,8 @@ class Networks(SharedCase):
 
     def test_attributions(self):
         for text, wanted in [
-            ("c by hand\nc attribution:  \u00a9 A: B \nc attribution: C\np sp 1 0\n", "\u00a9 A: B"), ("p sp 1 0\nc attribution: A\n", ""), ("", ""),
+            ("c by hand\nc attribution:  \u00a9 A: B \nc attribution: C\np sp 1 0\n", "\u00a9 A: B"),
+            ("p sp 1 0\nc attribution: A\n", ""), ("", ""),
         ]:
             self.write("n.gr", text)
             self.assertEqual([tables.read_attribution(self.folder / word) for word in ("n", "n.co", "none")], [wanted, wanted, ""])

@@ -155,7 +155,7 @@ def serve(prefix: pathlib.Path, excluded: dict[frozenset[str], str], **more: Any
 
 @pytest.mark.parametrize("turn", [1, -1])
 def test_a_ferry_beside_a_bridge(tmp_path, turn):
-    """Of one line: places are on the bridge, whichever comes first in the table, and on the ferry alone where the bridge is left out."""
+    """Of one line: places are on the bridge, whichever comes first in the table, and on none where the bridge is left out."""
     (tmp_path / "nodes.csv").write_text("lon,lat\n0,0\n0.01,0\n")
     rows = "1,2,600,ferry,\n2,1,600,ferry,\n", "1,2,60,primary,yes\n2,1,60,primary,yes\n"
     (tmp_path / "arcs.csv").write_text("from,to,seconds,highway,toll\n" + "".join(rows[::turn]))
