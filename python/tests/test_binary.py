@@ -2,11 +2,9 @@
 import gc
 import os
 import re
-import shutil
 import subprocess
 import sys
 import tracemalloc
-import unittest.mock
 import zlib
 
 import numpy as np
@@ -153,13 +151,6 @@ class OtherTests(BinaryCase):
         for attempt in (arrays.file.check_unchanged, lambda: arrays.file.columns[damaged[0]][:]):
             with self.assertRaisesRegex(domethyme.NetworkError, "was written to while it was in use"):
                 attempt()
-
-    def test_replaced_by_a_rename(self):
-        roads = RoadIndex(self.prefix)
-        shutil.copy(self.path, self.folder / "new")
-        os.replace(self.folder / "new", self.path)
-        roads.arrays.file.check_unchanged()
-        self.assertEqual(len(roads.arrays.node_lat[:]), 38)
 
 
 @pytest.fixture

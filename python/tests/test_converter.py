@@ -82,9 +82,7 @@ class BuildTests(ProgramCase):
         (self.programs / "g++").unlink()
         for name in ("CPPFLAGS", "CXXFLAGS", "LDFLAGS"):
             self.assertIn(f"-D{name}=hardening=+all ", (self.folder / "words").read_text())
-        self.assertEqual(
-            self.run_program([*self.command, "build_converter"], environment=self.environment).stdout.strip(), built
-        )
+        self.assertEqual(self.run_program([*self.command, "build_converter"], environment=self.environment).stdout.strip(), built)
         source = self.copy / "domethyme/maps/converter/map_arrays.cpp"
         source.write_text(source.read_text(encoding="utf-8") + "// changed\n", encoding="utf-8")
         self.refused("g++ is missing")
@@ -188,9 +186,7 @@ def drawn_map(seed):
     """A map of a few nodes that ways pass often, there and back, with names of all kinds and turn restrictions."""
     draw = random.Random(seed)
     lines = ["<osm version='0.6'>"]
-    lines += [
-        f"<node id='{node}' lon='{draw.randrange(9) / 1000}' lat='{draw.randrange(9) / 1000}'/>" for node in range(1, 13)
-    ]
+    lines += [f"<node id='{node}' lon='{draw.randrange(9) / 1000}' lat='{draw.randrange(9) / 1000}'/>" for node in range(1, 13)]
     for way in range(1, 25):
         nodes = [draw.randrange(1, 14) for _ in range(draw.randrange(2, 6))]
         nodes += nodes[::-1] * (draw.random() < 0.2)

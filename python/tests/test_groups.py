@@ -4,7 +4,7 @@ import random
 import numpy as np
 import pytest
 
-from domethyme.network.groups import expand, first_of_equal, mask, offsets, rows_of_groups
+from domethyme.network.groups import expand, first_of_equal, offsets
 
 COUNTS = [
     ([2, 0, 3], [0, 2, 2, 5], [0, 0, 2, 2, 2], [0, 1, 0, 1, 2]),
@@ -22,16 +22,6 @@ def test_groups(counts, begins, group, position, kind):
     found = expand(values)
     assert (found[0].tolist(), found[1].tolist()) == (group, position)
     assert {each.dtype for each in (offsets(values), *found)} == {np.dtype(np.int64)}
-
-
-@pytest.mark.parametrize("groups, is_back, bounds, rows", [
-    ([2, 0, 1, 2], [True, False, True, False], [0, 3, 5, 5, 8], [4, 3, 2, 0, 1, 2, 3, 4]),
-    ([0, 2], True, [0, 2, 5], [1, 0, 4, 3, 2]), ([1], False, [0, 0], []), ([], False, [0], []),
-])
-def test_rows_of_groups(groups, is_back, bounds, rows):
-    found = rows_of_groups(np.array([0, 2, 2, 5]), np.array(groups, np.int64), is_back)
-    assert [each.tolist() for each in found] == [bounds, rows]
-    assert mask(6, np.array(rows, np.int64), np.array([5])).tolist() == [row in rows or row == 5 for row in range(6)]
 
 
 @pytest.mark.parametrize("columns, first", [([[]], []), ([[7, 7, 5, 7]], [0, 0, 2, 0]), ([[1, 1, 1], [2, 3, 2]], [0, 1, 0])])

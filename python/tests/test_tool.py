@@ -107,9 +107,7 @@ class Ends(SharedCase):
         text = "import sys\nsys.path.insert(0, sys.argv[1])\nfrom domethyme import atomic_files\nfrom domethyme_tools import cli\ndef main():\n"
         script = self.write("tool", text + textwrap.indent(textwrap.dedent(body), "    ") + "\ncli.run(main)\n")
         streams = {"stdout": subprocess.PIPE, "stderr": subprocess.PIPE, **streams}
-        return subprocess.Popen(
-            [*TAKES_SIGNALS, "/usr/bin/python3", script, PYTHON], cwd=self.folder, encoding="utf-8", **streams
-        )
+        return subprocess.Popen([*TAKES_SIGNALS, "/usr/bin/python3", script, PYTHON], cwd=self.folder, encoding="utf-8", **streams)
 
     def assert_ends(self, child, status, says):
         stdout, stderr = child.communicate(timeout=SECONDS)
@@ -157,9 +155,7 @@ class Ends(SharedCase):
 
     def test_a_missing_module(self):
         body = "with cli.require_packages():\n    import no_such_module\n"
-        says = (
-            "tool: Python's module no_such_module is missing: run tools/check_packages, and the tool by /usr/bin/python3\n"
-        )
+        says = "tool: Python's module no_such_module is missing: run tools/check_packages, and the tool by /usr/bin/python3\n"
         self.assert_ends(self.start(body), 1, says)
 
 
@@ -216,9 +212,7 @@ class Tables(SharedCase):
             self.assert_fault(f"f, row 1: n {shown} isn't an integer", csv_tables.parse_int, text, "n", "f", 1)
         self.assert_fault("f, row 1: n 6 isn't from 0 to 5", csv_tables.parse_int, "6", "n", "f", 1, 0, 5)
         self.assert_fault("f, row 1: n -1 isn't from 0 to 4294967295", csv_tables.parse_int, "-1", "n", "f", 1)
-        self.assert_fault(
-            "f, row 1: lon '181' isn't from -180 to 180", csv_tables.parse_float, "181", "lon", "f", 1, -180, 180
-        )
+        self.assert_fault("f, row 1: lon '181' isn't from -180 to 180", csv_tables.parse_float, "181", "lon", "f", 1, -180, 180)
         self.assert_fault("f, row 1: n 'nan' is no finite number", csv_tables.parse_float, "nan", "n", "f", 1)
         for text in ("x", "1_0", "\N{FULLWIDTH DIGIT FIVE}0"):
             self.assert_fault(f"f, row 1: n {text!r} is not a number", csv_tables.parse_float, text, "n", "f", 1)
