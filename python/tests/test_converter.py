@@ -15,8 +15,6 @@ from domethyme.errors import MapError
 from domethyme.maps import conversion, map_arrays, road_network
 from domethyme.maps.vehicle_profile import read_profile
 from domethyme.network import figures, from_tables, net_file, parallel, table_files
-from domethyme.network import from_tables, net_file, parallel, table_files
-from domethyme.network.columns import UNITS
 
 # A compiler that writes the program to the path behind -o
 BUILT = '#!/bin/sh\necho "$@" >words\nwhile [ "$1" != -o ]; do shift; done\ncp program "$2"\nchmod +x "$2"\n'

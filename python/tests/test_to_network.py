@@ -16,7 +16,6 @@ from tool_case import IN_TABLES, VILLAGE, ToolCase, read_rows
 import domethyme
 from domethyme.csv_tables import escape_formula, unescape_formula
 from domethyme.network import net_file
-from domethyme.network.columns import NO_OSM
 from domethyme.network.tables import read_attribution
 from domethyme_tools.to_network import mark
 
