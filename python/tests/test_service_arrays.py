@@ -4,10 +4,19 @@ import json
 import numpy as np
 import pytest
 
+from domethyme_service import json_text, osrm_geometry
 from domethyme_service.costs import Meter
 from domethyme_service.errors import RequestError
 from domethyme_service.json_text import decimal_texts, number_texts, point_texts
 from domethyme_service.osrm_geometry import MAX_GEOS_POINTS, Budget, simplified
+
+
+@pytest.fixture(autouse=True, params=[None, 76])
+def chunk(request, monkeypatch):
+    """What is computed at once: as much as ever, and so little that there are several parts."""
+    if request.param:
+        monkeypatch.setattr(json_text, "CHUNK", request.param)
+        monkeypatch.setattr(osrm_geometry, "CHUNK", request.param)
 
 
 def budget(by_geos=10**9, examined=10**9):

@@ -24,7 +24,7 @@ from domethyme.network.column_file import HEAD
 from domethyme.network.columns import UNITS
 from domethyme.network.from_tables import load_network
 from domethyme_service import access, endpoints, osrm_request, parameters, worker, wsgi
-from domethyme_service.costs import Meter
+from domethyme_service.costs import Meter, Work
 from domethyme_service.errors import RequestError
 from domethyme_service.osrm_geometry import Budget, simplified
 
@@ -383,9 +383,11 @@ class WorkTests(ServiceCase):
 
 class BudgetTests(unittest.TestCase):
     def test_budgets(self):
-        budget = Budget(Meter(), 1)
-        with self.assertRaises(RequestError):
-            budget.spend(10**9)
+        budget = Budget(Meter(), 3)
+        budget.spend(1_500_000)
+        self.assertEqual(budget.meter.counts, {Work.POINT: 4_500_000})
+        with self.assertRaisesRegex(RequestError, "more than 1500000 points"):
+            budget.spend(1)
         with self.assertRaises(RequestError):
             simplified(np.zeros((1000, 2)), -1.0, small())
 

@@ -12,6 +12,8 @@ from service_case import ServiceCase, resident
 from tool_case import TOOLS
 
 from domethyme_service import endpoints, metrics, openapi
+from domethyme_service.errors import RequestError
+from domethyme_service.osrm_request import parse_request
 
 PAGE = TOOLS.parent / "docs/SERVICE.md"
 
@@ -23,10 +25,12 @@ class TableTests(unittest.TestCase):
             text = "\n".join(table)
             self.assertIn(f"\n\n{text}\n\n", lines, f"docs/SERVICE.md has another table than this:\n{text}")
 
-    def test_the_command_prints_them(self):
-        words = [sys.executable, "-m", "domethyme_service.endpoints"]
-        printed = subprocess.run(words, cwd=TOOLS.parent / "python", capture_output=True, text=True, check=True).stdout
-        self.assertEqual(printed, "\n\n".join("\n".join(table) for table in endpoints.tables()) + "\n")
+    def test_the_commands_print_them(self):
+        tables = "\n\n".join("\n".join(table) for table in endpoints.tables()) + "\n"
+        for module, wanted in (("endpoints", tables), ("openapi", (PAGE.parent / "openapi.json").read_text(encoding="utf-8"))):
+            words = [sys.executable, "-m", f"domethyme_service.{module}"]
+            printed = subprocess.run(words, cwd=TOOLS.parent / "python", capture_output=True, encoding="utf-8", check=True).stdout
+            self.assertEqual(printed, wanted)
 
     def test_statuses_are_counted(self):
         """Each status of the package has a counter."""
@@ -37,6 +41,22 @@ class TableTests(unittest.TestCase):
 
     def test_names_differ(self):
         self.assertEqual(len(endpoints.BY_NAME), len(endpoints.ENDPOINTS))
+
+
+@pytest.mark.parametrize("service, least, most", [
+    ("route", 2, 500), ("nearest", 1, 1), ("table", 1, 2000), ("trip", 2, 500), ("match", 2, 500), ("isochrone", 1, 1),
+])
+def test_how_many_places_there_may_be(service, least, most):
+    """Places may be at all ends of the earth."""
+    def ended(count):
+        path = f"/{service}/v1/car/{';'.join((['180,90', '-180,-90'] * count)[:count])}"
+        try:
+            return len(parse_request(endpoints.find_endpoint(path), path, {}, 1000.0).places)
+        except RequestError as error:
+            return error.code
+
+    wanted = ["InvalidQuery", least, most, "TooBig" if most > 1 else "InvalidQuery"]
+    assert [ended(count) for count in (least - 1, least, most, most + 1)] == wanted
 
 
 class EndpointTests(ServiceCase):
@@ -63,7 +83,6 @@ class EndpointTests(ServiceCase):
                     self.assertEqual(status, 200 if endpoint.parameters is None else 400)
                     if status == 400:
                         self.assertEqual(found, {"code": "InvalidQuery", "message": endpoint.unknown.format("colour")})
-
 
     def test_answers_have_the_shapes_of_openapi(self):
         """docs/openapi.json is what the table makes, and answers of all endpoints are as it says."""
