@@ -182,7 +182,8 @@ GOING_ON = (
     Kind(404, "InvalidUrl", "a path that is none", (
         "/$text", "/$text/v1/car/$places", "/Route/v1/car/$places", "//route/v1/car/$places", "/nodes/$text", "/nodes/length/?$pair",
         "/nodes?$pair", "/map/$text.js", "/map/../$text", "/%2e%2e/$text", "/map/roads/$few/x/0", "/map/roads/1/$few.0/0",
-        "/map/roads/-1/0/$few", "/health/$text", "/metrics%00$text", "/$text%FF", "/$text$long_line", "/%72oute/v1/car/$places")),
+        "/map/roads/-1/0/$few", "/map/roads/$few/0/0$text", "/$many?$text", "/health/$text", "/metrics%00$text", "/$text%FF",
+        "/$text$long_line", "/%72oute/v1/car/$places")),
     Kind(400, "InvalidQuery", "an option that is none", tuple(f"/{path}?{name}" for path, others in (
         ("$many/v1/$text/$places", ("number=3", "Steps=true", "OVERVIEW=", "step=$text")),
         ("nearest/v1/$text/$place", ("steps=true", "sources=0", "overview=full", "annotations=true")),
@@ -198,9 +199,10 @@ GOING_ON = (
     Kind(400, "InvalidQuery", "more options than there may be", ("/$many/v1/$text/$places?$many_fields",)),
     Kind(400, "InvalidValue", "a node that is none", tuple(f"$nodes?{query}" for wrong in (
         "$bad", "$bad", "", "0", "$above", "-$few", "1.0", "99999999999", "9" * 300) for query in (
-        f"from={wrong}&to=$node", f"from=$node&to={wrong}", f"to={wrong}&from=$node"))),
+        f"from={wrong}&to=$node", f"from=$node&to={wrong}", f"from_key={wrong}&to=$node"))),
     Kind(400, "InvalidQuery", "a node that is missing", (
-        "$nodes?from=$node", "$nodes?to=$node", "$nodes?$pair&$text=1", "$nodes?$pair&By=car", "$nodes?From=$node&To=$node")),
+        "$nodes?from=$node", "$nodes?to=$node", "$nodes?$pair&from_key=$text", "$nodes?to_key=$text&$pair",
+        "$nodes?$pair&$text=1", "$nodes?$pair&By=car", "$nodes?From=$node&To=$node")),
     Kind(400, "InvalidValue", "a tile that is none", (
         "/map/roads/2$few/$few/$few", "/map/roads/5/$above/0", "/map/roads/3/0/$above", "/map/roads/5/$above/$above")),
     Kind(400, "InvalidQuery", "an option of the page that is none", ("/map/about?$text=$text", "/map/roads/$few/0/0?$text=$text")),

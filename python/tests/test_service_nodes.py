@@ -34,14 +34,21 @@ class NodesTests(ServiceCase):
         self.assertEqual((status, [each.get("line") for each in found]), (200, [None, 2, 3, 4, 5, 6, 7, 8, None, 10, 11, None, 13]))
         self.assertEqual(found[9]["message"], "a name is there twice")
         self.assertEqual(self.ask("/nodes/lengths", "POST", ""), (200, ""))
+        # (lines that are parsed at once where all of them are right)
+        for wrong, says in ((line.ljust(256) + "}", "a line has at most 256 bytes"), ('{"from": 39, "to": 1}', "from has to be a node from 1 to 38"),
+                            ('{"from": 1, "to": 39}', "to has to be a node from 1 to 38"), ('{"from": 1, "to": 0}', "to has to be a node from 1 to 38")):
+            text = self.ask("/nodes/lengths", "POST", f'{{"from": 38, "to": 38}}\n{wrong}\n{{"from": 1, "to": 1}}')[1]
+            self.assertEqual([json.loads(line).get("message") for line in text.splitlines()], [None, says, None])
 
     def test_a_batch_of_one_block_is_sent_whole(self):
         """With its length, so a client, and nginx, knows where it ends."""
         self.serve()
         line = '{"from": 1, "to": 2}'
-        for count, end, is_whole in ((1, "", True), (256, "", True), (256, "\n", True), (257, "", False), (257, "\n", False)):
+        most = "\n".ljust((4 << 20) - len(line))
+        for count, end, is_whole in ((1, "", True), (256, "", True), (256, "\n", True), (257, "", False), (257, "\n", False), (1, most, True)):
             status, text = self.ask("/nodes/lengths", "POST", "\n".join([line] * count) + end)
-            self.assertEqual((status, text.count("\n"), "Content-Length" in self.headers), (200, count, is_whole), (count, end))
+            self.assertEqual((status, text.count("\n"), "Content-Length" in self.headers), (200, count, is_whole), (count, len(end)))
+        self.assertEqual(self.ask("/nodes/lengths", "POST", line + most + " ")[0], 413)
 
     def test_too_many_faults_in_a_batch(self):
         """The answer ends with the first error beyond the limit, after the lines before it."""
