@@ -1,7 +1,11 @@
-"""OSRM's API: large tables, messages, and what is logged."""
+"""OSRM's API: large tables, other routes, messages, and what is logged."""
+import itertools
 import json
 
+import pytest
+from reach_case import Road, prepared
 from service_case import ServiceCase
+from test_generated_service import ask, open_service
 from tool_case import TOOLS
 
 HIGH = "0.0003,0.00001;0.0077,-0.00002"
@@ -20,6 +24,41 @@ class OsrmCase(ServiceCase):
         return found
 
 
+def test_other_routes(tmp_path):
+    """As many as are asked for, to three, between two places: of five ways the lightest ones, in order."""
+    nodes, roads = [(0.0, 0.0), (0.02, 0.0)], []
+    for number, weights in enumerate([(1000, 1000), *((550, 1000 + 100 * more, 550) for more in range(4))]):
+        inner = [(0.02 * (place + 1) / len(weights), 0.002 * number) for place in range(len(weights) - 1)]
+        line = [0, *range(len(nodes), len(nodes) + len(inner)), 1]
+        nodes += inner
+        roads += [Road(*step, weight, None) for step, weight in zip(itertools.pairwise(line), weights)]
+    prepared(nodes, roads, tmp_path / "net").close()
+    service, wanted = open_service(tmp_path / "net"), [2.0, 2.1, 2.2, 2.3]
+    for places, asked, count in (
+        *(("0,0;0.02,0", *row) for row in (("false", 1), ("true", 2), ("0", 1), ("1", 2), ("2", 3), ("3", 4), ("9", 4))), ("0,0;0.02,0;0.02,0", "3", 1)
+    ):
+        found = ask(service, f"/route/v1/car/{places}?alternatives={asked}")[1]
+        assert [route["weight"] for route in found["routes"]] == wanted[:count]
+    assert ask(service, "/health")[1]["alternatives"] == 3
+
+
+@pytest.mark.parametrize("path, says", [
+    ("nearest/v1/car/47.1,9.5", "there is no road within 1000 m of place 0, 47.1,9.5 (LON,LAT; is it LAT,LON?). {} 0"),
+    ("nearest/v1/car/9.5,49", "there is no road within 1000 m of place 0, 9.5,49 (LON,LAT). {} 0"),
+    ("route/v1/car/9.5,47;9.5,47.1?bearings=90,9;0,9&radiuses=;50.5", "there is no road of that bearing within 50.5 m of place 1, 9.5,47.1 (LON,LAT). {} 1"),
+    ("route/v1/car/9.5,47;9.5,47.1?radiuses=;0&bearings=90,9;", "there is no road within 0 m of place 1, 9.5,47.1 (LON,LAT). {} 1"),
+    ("route/v1/car/9.5,47;200,10", "place 1 is 200,10: longitude first, from -180 to 180, then latitude, from -90 to 90"),
+    ("route/v1/car/10,100;9.5,47", "place 0 is 10,100: longitude first, from -180 to 180, then latitude, from -90 to 90; is it LAT,LON?"),
+    ("match/v1/car/9.5,47;9.5,49;9.501,47?waypoints=0;1;2", "place 1 is one of waypoints, and has no match"),
+    ("route/v1/car/9.5,47;9.501,47?exclude=toll,ferry", "exclude=ferry,toll isn't answered: it was started without --exclude"),
+])
+def test_what_messages_say(tmp_path, path, says):
+    """Which place is meant, whether both of its numbers may be the wrong way round, and at the end its number, as VROOM reads it."""
+    prepared([(9.5, 47.0), (9.501, 47.0)], [Road(0, 1, 1000, 1000)], tmp_path / "net").close()
+    message = ask(open_service(tmp_path / "net"), f"/{path}")[1]["message"]
+    assert message == says.format("The roads are from 9.5000,47.0000 to 9.5010,47.0000. No segment for coordinate")
+
+
 class RequestTests(OsrmCase):
     def test_a_million_cells(self):
         places = [f"{0.00001 * number:.5f},0.00001" for number in range(1000)]
@@ -34,6 +73,7 @@ class RequestTests(OsrmCase):
         status, found = self.ask(f"/table/v1/car/{HIGH};0.001,0")
         self.assertEqual((status, found["code"]), (400, "TooBig"))
         self.assertIn("5 cells (--max-table-cells)", found["message"])
+        self.assertEqual(self.ask(f"/table/v1/car/{HIGH}?sources=0;1;1&destinations=0;0")[1]["code"], "TooBig")
 
     def test_profiles_that_are_allowed(self):
         """Any word, or those of --profile alone."""
@@ -49,7 +89,6 @@ class RequestTests(OsrmCase):
         """Errors name the place, the extent of the roads, and that longitudes come first."""
         for path, says in (
             ("/route/v1/car/0,0;0.5,0.5", ("place 1, 0.5,0.5 (LON,LAT)", "The roads are from -0.0055,-0.0010 to ", "within 5000 m")),
-            ("/route/v1/car/0,0;47.1,120", ("place 1 is 47.1,120: longitude first", "is it LAT,LON?")),
             (f"/route/v1/car/{HIGH};0.020,0.005", ("no route from place 1 to place 2",)),
             (f"/route/v1/car/{HIGH};0.020,0.005?continue_straight=true", ("no route from place 1 to place 2",)),
         ):

@@ -22,14 +22,15 @@ PLACES = [CENTRE, WEST, EAST, NORTH, SOUTH]
 ROADS = [(1, 0, "High Street"), (0, 2, "High Street"), (0, 3, "North Lane"), (3, 0, "North Lane"), (2, 0, "High Street"), (0, 1, "High Street")]
 
 
-def crossing(*forbidden: tuple[int, int], north: str = "North Lane") -> Drawn:
-    """Four roads that meet, where some arcs may not follow on others."""
+def crossing(*forbidden: tuple[int, int], north: str = "North Lane", end: tuple[float, float] = NORTH) -> Drawn:
+    """Four roads that meet, where some arcs may not follow on others, and of which that to the north may lead elsewhere."""
+    places = [*PLACES[:3], end, SOUTH]
     ends = [(start, end, name.replace("North Lane", north)) for start, end, name in [*ROADS, (4, 0, "South Lane")]]
     ways = {frozenset((1, 0)): 1, frozenset((0, 2)): 2, frozenset((0, 3)): 3, frozenset((4, 0)): 4}
     arcs = [
-        Arc(start, end, 8006, 8.006, 111.2, (PLACES[start], PLACES[end]), ways[frozenset((start, end))], name) for start, end, name in ends
+        Arc(one, other, 8006, 8.006, 111.2, (places[one], places[other]), ways[frozenset((one, other))], name) for one, other, name in ends
     ]
-    roads = Network([Node(*place, osm=number + 1) for number, place in enumerate(PLACES)], arcs, forbidden)
+    roads = Network([Node(*place, osm=number + 1) for number, place in enumerate(places)], arcs, forbidden)
     return Drawn(roads, split(roads) if forbidden else roads, False)
 
 
@@ -61,6 +62,28 @@ def test_a_turn_at_a_split_junction(tmp_path: pathlib.Path) -> None:
     """A step begins at a turn onto a road of the same name, though from the west one may only go on there."""
     _, turn, _ = steps(tmp_path, crossing((0, 1), north="High Street"), "-0.0005,0;0,0.0005")
     assert turn["maneuver"]["type"] == "continue" and turn["maneuver"]["modifier"] == "left"
+
+
+@pytest.mark.parametrize("end, side", [((0.001, 0.001), "left"), ((0.001, -0.001), "right")])
+def test_turns_of_45_degrees(tmp_path: pathlib.Path, end: tuple[float, float], side: str) -> None:
+    """One of 46 begins a step, and is a turn; at one of 45 the road goes on, which may have a new name."""
+    for east, kinds in ((0.001, ["", "new name"]), (0.000966, ["continue", "turn"])):
+        for name, kind in zip(("High Street", "North Lane"), kinds):
+            _, *turns, _ = steps(tmp_path, crossing(north=name, end=(east, end[1])), f"-0.0005,0;{east / 2},{end[1] / 2}")
+            assert [(turn["maneuver"]["type"], turn["maneuver"]["modifier"]) for turn in turns] == [(kind, side)] * bool(kind)
+
+
+def test_annotations(tmp_path: pathlib.Path) -> None:
+    """Segments of a bend have their shares of the arc's figures, and of what is driven; ids are those of nodes, and what takes no time has no
+    speed."""
+    lines = ((0.0, 0.0), (0.001, 0.0), (0.003, 0.0)), ((0.003, 0.0), (0.003, 0.001))
+    nodes = [Node(*place, osm=number) for number, place in enumerate((*lines[0][::2], lines[1][1]), 1)]
+    roads = Network(nodes, [Arc(0, 1, 9000, 9.0, 450.0, lines[0]), Arc(1, 2, 0, 0.0, 100.0, lines[1], 1)])
+    write_network(Drawn(roads, roads, False), tmp_path / "net")
+    found = ask(open_service(tmp_path / "net"), "/route/v1/car/0,0;0.0015,0;0.003,0.001?annotations=true")[1]
+    seconds, metres, speeds, ids = [[3.0, 1.5], [4.5, 0.0]], [[150.0, 75.0], [225.0, 100.0]], [[50.0, 50.0], [50.0, 0.0]], [[1, 0, 0], [0, 2, 3]]
+    rows = zip(seconds, seconds, metres, [[0, 0], [0, 0]], speeds, ids)
+    assert [[*leg["annotation"].values()] for leg in found["routes"][0]["legs"]] == [*map(list, rows)]
 
 
 def test_one_leg_by_a_place_between(tmp_path: pathlib.Path) -> None:
