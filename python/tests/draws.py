@@ -34,7 +34,7 @@ ORIGINS = [(9.5, 47.1), (179.9995, -17.0), (30.0, 89.95), (0.0, 0.0)]
 KINDS = ("duration", "distance", "weight", "weight alone")
 HEAVY = "weights of which two have more than 32 bits"
 NAMES = ("", "", "High Street", "Mill Lane", "Rue de l'Été; \"Nord\"")
-REFS, JUNCTIONS = ("", "", "B12;E60"), ("", "", "", "roundabout", "circular")
+REFS, JUNCTIONS = ("", "", "B12; E60;A1"), ("", "", "", "roundabout", "circular")
 
 
 def drawn(count: int) -> Callable[[Any], Any]:
@@ -316,8 +316,8 @@ KNOWN: dict[str, dict[str, dict[str, Sequence[str]]]] = {
         "annotations": invalid(["duration", "weight,distance"], "true", "speed", "durations", "duration,", "duration,duration", ""),
     },
     "isochrone": {
-        "polygons": YES_NO, "contours_colors": invalid(["ff0000", "00ff00,0000ff"], "red", "#ff0000", "ff000", ""),
-        "generalize": invalid(["0", "10"], "1000001", *WRONG), "denoise": invalid(["0", "0.2", "1"], "2", "1.1", *WRONG),
+        "polygons": YES_NO, "contours_colors": invalid(["ff0000", "00FF00,0000ff"], "red", "#ff0000", "ff000", ""),
+        "generalize": invalid(["0", "10", "1000000"], "1000001", *WRONG), "denoise": invalid(["0", "0.2", "1"], "2", "1.1", *WRONG),
         "reverse": invalid(["false", "true", "true"], "1", "", "True"), "access_token": coded("x", ""),
         "exclude": EXCLUDE, "depart_at": UNSUPPORTED, "unknown": {"InvalidQuery": ["1"]},
     },
@@ -372,5 +372,5 @@ def texts_of(service: str, count: int, directions: Sequence[int], is_wrong: bool
         indices = st.lists(st.integers(0, count - 1).map(str), min_size=1, max_size=count)
         found["annotations"] = st.one_of(some.map(lambda words: of_words(words, annotations[:3])), found["annotations"])
         places = indices.map(lambda words: (";".join(words), ""))
-        found["sources"] = st.one_of(places, found["destinations"])
+        found["sources"] = found["destinations"] = st.one_of(places, places, found["destinations"])
     return {name: texts for name, texts in found.items() if texts is not None}

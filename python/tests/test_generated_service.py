@@ -25,6 +25,7 @@ from model.request import Request
 from model.steps import modifier_of
 
 import domethyme
+from domethyme_service import osrm, osrm_tables
 from domethyme_service import osrm_tables, tiles
 from domethyme_service.access import AccessPolicy
 from domethyme_service.dataset import DatasetPaths, open_dataset
@@ -83,7 +84,8 @@ def target(request: Request) -> str:
 @given(st.data())
 def test_routes_nearest_tables_and_trips(data: Any) -> None:
     made = data.draw(networks())
-    with tempfile.TemporaryDirectory() as folder, mock.patch.multiple(osrm_tables, NODE_CELLS=8, SUMMED_CELLS=8):  # (so that tables come in parts)
+    with tempfile.TemporaryDirectory() as folder, mock.patch.multiple(osrm_tables, NODE_CELLS=8, SUMMED_CELLS=8), \
+            mock.patch.object(osrm, "SNAP_BATCH", 2):  # (so that tables, and places, come in parts)
         service = serve(made, pathlib.Path(folder))
         for _ in range(REQUESTS):
             drawn_request = data.draw(requests(made, data.draw(st.sampled_from(["route", "route", "nearest", "table", "trip"]))))
@@ -160,6 +162,7 @@ def test_each_text_of_a_parameter(tmp_path: pathlib.Path) -> None:
     rows += [("table", "sources", *row) for row in rows_of(KNOWN["table"]["destinations"])]
     rows += [("isochrone", "contours_minutes", text, "InvalidValue") for text in (*LIMITS, *WRONG)]
     rows += [("isochrone", "contours_meters", text, "InvalidValue") for text in (*LIMITS[:-1], *WRONG)]
+    rows += [(*each, "InvalidValue") for each in (("table", "sources", "2"), ("table", "destinations", "0;2"), ("route", "waypoints", "0;2;1"))]
     for what, name, text, code in [*rows, *(("route", name, *row) for name in WORDS for row in words_of(WORDS[name]))]:
         for endpoint in ["route", "nearest", "table", "trip", "match"] if what == "osrm" else [what]:
             where = [(0.0003, 0.0), (0.0007, 0.00001)] if endpoint in ("route", "table", "trip", "match") else [(0.0003, 0.0)]
@@ -228,21 +231,20 @@ def test_tiles(data: Any) -> None:
 
 
 def check_nodes(made: Drawn, service: Service, pairs: list[tuple[int, int]]) -> None:
-    """Routes and lengths between nodes by number, of one pair and of a batch."""
-    net, lines = made.tables, "".join(f'{{"from": {one + 1}, "to": {other + 1}}}\n' for one, other in pairs)
-    batches = [ask(service, f"/nodes/{what}", lines) for what in ("routes", "lengths")]
-    for row, (one, other) in enumerate(pairs):
-        length, keys = net.lengths({one: 0}).get(other), {}
-        if made.has_keys:
-            keys = {"from_key": net.nodes[one].key, "to_key": net.nodes[other].key}
-            assert ask(service, "/nodes/length?" + urllib.parse.urlencode(keys))[1]["length"] == length
-        expected = {"from": one + 1, "to": other + 1, "length": length, **keys}
-        for found in (batches[1][1][row], ask(service, f"/nodes/length?from={one + 1}&to={other + 1}")[1]):
-            assert found == expected
-        for found in (batches[0][1][row], ask(service, f"/nodes/route?from={one + 1}&to={other + 1}")[1]):
-            nodes = found["nodes"] and [node - 1 for node in found["nodes"]]
-            assert found == {**expected, "arcs": net.fewest_arcs(one, other), "nodes": found["nodes"]}
-            assert nodes is None if length is None else net.is_path(nodes, one, other, length)
+    """Routes and lengths between nodes by number, and by key, of one pair and of a batch."""
+    net, numbers = made.tables, [{"from": one + 1, "to": other + 1} for one, other in pairs]
+    keys = [{"from_key": net.nodes[one].key, "to_key": net.nodes[other].key} if made.has_keys else {} for one, other in pairs]
+    for words in (numbers, keys)[: 1 + made.has_keys]:
+        lines = "".join(f"{json.dumps(each)}\n" for each in words)
+        batches = [ask(service, f"/nodes/{what}", lines)[1] for what in ("routes", "lengths")]
+        for (one, other), asked, number, key, *answers in zip(pairs, words, numbers, keys, *batches, strict=True):
+            length, query = net.lengths({one: 0}).get(other), urllib.parse.urlencode(asked)
+            expected = {**number, "length": length, **key}
+            assert answers[1] == ask(service, f"/nodes/length?{query}")[1] == expected
+            for found in (answers[0], ask(service, f"/nodes/route?{query}")[1]):
+                nodes = found["nodes"] and [node - 1 for node in found["nodes"]]
+                assert found == {**expected, "arcs": net.fewest_arcs(one, other), "nodes": found["nodes"]}
+                assert nodes is None if length is None else net.is_path(nodes, one, other, length)
 
 
 def check(made: Drawn, service: Service, request: Request, codes: set[str]) -> None:

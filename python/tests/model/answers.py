@@ -204,8 +204,8 @@ def leg_answer(
     found: dict[str, Any] = {"summary": "", "steps": [], **total}
     if request.value("steps") == "true":
         lines = [arc_line(network, part) for part in leg]
-        found["steps"] = steps(network, *ends, leg, lines, request.value("geometries", "polyline"), figures)
-        found["summary"] = TEXT
+        found["steps"] = shown = steps(network, *ends, leg, lines, request.value("geometries", "polyline"), figures)
+        found["summary"] = ", ".join([*dict.fromkeys(filter(None, (step["name"] for step in shown)))][:2]) if isinstance(shown, list) else TEXT
     if names := request.annotations():
         found["annotation"] = annotation(network, leg, names, total)
     return found
