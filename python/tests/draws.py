@@ -299,7 +299,7 @@ KNOWN: dict[str, dict[str, dict[str, Sequence[str]]]] = {
         "geometries": invalid(["polyline", "polyline6", "geojson"], "wkt"), "annotations": YES_NO,
     },
     "match": {
-        "timestamps": coded("0;1", "5;5", InvalidQuery=["1", "1;2;3"], InvalidValue=[
+        "timestamps": coded("0;1", "5;5", "1700000000;1700000009", InvalidQuery=["1", "1;2;3"], InvalidValue=[
             "1;0", "1;", ";", "1;x", "-1;2", "1.5;2", "1,2", "", "9999999999999;9999999999999"
         ]),
         "approaches": coded("", "unrestricted", "unrestricted;", NotImplemented=["curb", "unrestricted;curb", "opposite"]),
@@ -317,7 +317,7 @@ KNOWN: dict[str, dict[str, dict[str, Sequence[str]]]] = {
     },
     "isochrone": {
         "polygons": YES_NO, "contours_colors": invalid(["ff0000", "00FF00,0000ff"], "red", "#ff0000", "ff000", ""),
-        "generalize": invalid(["0", "10", "1000000"], "1000001", *WRONG), "denoise": invalid(["0", "0.2", "1"], "2", "1.1", *WRONG),
+        "generalize": invalid(["0", "10"], "1000001", *WRONG), "denoise": invalid(["0", "0.2", "1"], "2", "1.1", *WRONG),
         "reverse": invalid(["false", "true", "true"], "1", "", "True"), "access_token": coded("x", ""),
         "exclude": EXCLUDE, "depart_at": UNSUPPORTED, "unknown": {"InvalidQuery": ["1"]},
     },

@@ -48,16 +48,21 @@ def open_service(prefix: pathlib.Path) -> Service:
     return Service(dataset, Options(AccessPolicy.from_options(["x"], "none")), SharedMetrics())
 
 
-def ask(service: Service, target: str, lines: str = "") -> tuple[int, Any]:
-    """The status and the JSON of an answer, or of each of its lines for a batch of lines."""
-    begun: list[Any] = []
-    environ = {
+def environ_of(target: str, lines: str = "") -> dict[str, Any]:
+    """WSGI's environ of a request, or of a batch of lines."""
+    environ: dict[str, Any] = {
         "RAW_URI": target, "REQUEST_METHOD": "GET", "HTTP_HOST": "x", "SERVER_PROTOCOL": "HTTP/1.1", "REMOTE_ADDR": "127.0.0.1",
         "SERVER_NAME": "127.0.0.1",
     }
     if lines:
         environ |= {"REQUEST_METHOD": "POST", "CONTENT_TYPE": "application/json", "CONTENT_LENGTH": str(len(lines))}
-    body = b"".join(service({**environ, "wsgi.input": io.BytesIO(lines.encode())}, lambda *head: begun.append(head)))
+    return {**environ, "wsgi.input": io.BytesIO(lines.encode())}
+
+
+def ask(service: Service, target: str, lines: str = "", **more: str) -> tuple[int, Any]:
+    """The status and the JSON of an answer, or of each of its lines for a batch of lines, with more keys in its environ."""
+    begun: list[Any] = []
+    body = b"".join(service({**environ_of(target, lines), **more}, lambda *head: begun.append(head)))
     return int(begun[0][0][:3]), [*map(json.loads, body.splitlines())] if lines else json.loads(body)
 
 
@@ -121,13 +126,14 @@ def check_match(hierarchy: domethyme.Hierarchy, request: Request, found: Any) ->
             ways[point["matchings_index"]].append(number)
             assert point["location"] == [place.lon, place.lat]
     assert [way.points for way in match.matchings] == ways and (ways or not any(match.places))
+    assert all(abs(way.confidence - each["confidence"]) < 1e-6 for way, each in zip(match.matchings, found.get("matchings", [])))
 
 
 @drawn(40)
 @given(st.data())
 def test_isochrones(data: Any) -> None:
     """Not beside a pole, where the plane that contours are drawn in isn't the earth."""
-    made = data.draw(networks(["duration", "distance"], most=5, origins=[ORIGINS[0], ORIGINS[3]]))
+    made = data.draw(networks(["duration", "distance", "duration", "distance", "weight"], most=5, origins=[ORIGINS[0], ORIGINS[3]]))
     with tempfile.TemporaryDirectory() as folder:
         service = serve(made, pathlib.Path(folder))
         for _ in range(2):
@@ -136,7 +142,8 @@ def test_isochrones(data: Any) -> None:
             if ends and data.draw(st.booleans()):  # (from which nothing is reached)
                 request = request._replace(places=[made.roads.nodes[data.draw(st.sampled_from(ends))].place])
             limits = {"contours_minutes": ["0.02,0.5", "1,2", "0.1", "1,2,3,4"], "contours_meters": ["50,300", "700"]}
-            own = "contours_minutes" if made.roads.unit == "duration" else "contours_meters"
+            unit = data.draw(st.sampled_from([*[made.roads.unit] * 9, "duration", "distance"]))
+            own = "contours_minutes" if unit == "duration" else "contours_meters"
             text, code = data.draw(st.sampled_from([*((text, "") for text in 9 * limits[own]), *((text, "InvalidValue") for text in (*LIMITS, *WRONG))]))
             check(made, service, request._replace(query={own: text, **request.query}), codes | ({code} - {""}))
 
@@ -162,7 +169,9 @@ def test_each_text_of_a_parameter(tmp_path: pathlib.Path) -> None:
     rows += [("table", "sources", *row) for row in rows_of(KNOWN["table"]["destinations"])]
     rows += [("isochrone", "contours_minutes", text, "InvalidValue") for text in (*LIMITS, *WRONG)]
     rows += [("isochrone", "contours_meters", text, "InvalidValue") for text in (*LIMITS[:-1], *WRONG)]
-    rows += [(*each, "InvalidValue") for each in (("table", "sources", "2"), ("table", "destinations", "0;2"), ("route", "waypoints", "0;2;1"))]
+    numbers = ("table", "sources", "2"), ("table", "destinations", "0;2"), ("route", "waypoints", "0;2;1")
+    rows += [(*row, "InvalidValue") for row in numbers]
+    rows += [("isochrone", "generalize", "1000000", ""), ("isochrone", "contours_meters", "1000000", "NotImplemented")]
     for what, name, text, code in [*rows, *(("route", name, *row) for name in WORDS for row in words_of(WORDS[name]))]:
         for endpoint in ["route", "nearest", "table", "trip", "match"] if what == "osrm" else [what]:
             where = [(0.0003, 0.0), (0.0007, 0.00001)] if endpoint in ("route", "table", "trip", "match") else [(0.0003, 0.0)]

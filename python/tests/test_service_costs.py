@@ -25,8 +25,10 @@ from hypothesis import given
 from hypothesis import strategies as st
 from nginx_case import NginxCase
 from service_case import IMPORT, ServiceCase, workers_of
+from test_generated_service import ask, environ_of, open_service
 from test_generated_service import ask, open_service
 from tool_case import PYTHON, ROOT, SECONDS
+from tool_case import ROOT, SECONDS
 
 from domethyme_service import endpoints, queries, slots, worker
 from domethyme_service.costs import MOST, SHORT, Meter, NeedsSlot, Size, Work, expected
@@ -144,6 +146,9 @@ def test_what_calls_of_the_library_cost(nodes, links, sources, targets):
         with mock.patch.object(queries, "batch"):
             call()
         assert (metrics.own.queries_total - before, meter.spent) == (count, pytest.approx(units))
+    # (other routes are searched for in up to so many nodes)
+    for count, turned, most in ((5_000_000, router, 3), (5_000_001, router, 0), (9, None, 0)):
+        assert queries.Queries(mock.MagicMock(nodes=count), links, metrics, meter, turned=turned).alternatives == most
 
 
 def test_a_meter_ends_what_costs_too_much():
@@ -474,6 +479,34 @@ class ArbiterTests(ServiceCase):
         assert ask(service, twice)[0] == 200 and service.meter.counts[Work.SUM] <= 4 and service.meter.counts[Work.PLACE] == 2
         assert ask(service, "/nearest/v1/car/-179.99,0.01")[1]["code"] == "NoSegment" and not service.meter.counts[Work.ROAD]
         assert ask(service, "/nearest/v1/car/-179.99,0.01?radiuses=unlimited")[0] == 200 and service.meter.counts[Work.ROAD] > 10
+
+    def test_what_requests_are_to_cost_and_do(self):
+        """By the formulas of docs/SERVICE.md before any work, a batch by its bytes; and what is counted then. A batch that needs a
+        slot after all is read once."""
+        service, line, places = open_service(self.folder / "v"), '{"from": 1, "to": 7}\n', "car/0.0003,0;0.0013,0;0.002,0"
+        nodes = 1.3 * 2 * math.sqrt(service.queries.nodes)
+        for path, lines, cost, counts in (
+            ("/nodes/length?from=1&to=7", "", 250, {"PAIR": 1}), ("/map/roads/16/32768/32767", "", 50_000, {}),
+            ("/nodes/route?from=1&to=7", "", 250 + nodes, {"PAIR": 1, "NODE": 7}),
+            ("/nodes/lengths", 300 * line, 315 * 255, {"PAIR": 300, "LINE": 300}),
+            ("/nodes/routes", 300 * line, 315 * (255 + nodes), {"PAIR": 300, "LINE": 300, "NODE": 2100}),
+            ("/nearest/v1/car/0,0?number=7&bearings=90,20", "", 13_200, {"PLACE": 7, "BEARING": 1}),
+            # (the text of a row that comes twice, of 23 bytes, and that of another one)
+            (f"/table/v1/{places}?sources=0;1;0&destinations=0;1;1;2", "", 0, {"PLACE": 3, "CELL": 8, "BYTE": 2 * 23 + 21}),
+            (f"/trip/v1/{places}", "", 0, {"PLACE": 3, "STOP": 3, "PAIR": 3}), (f"/match/v1/{places}", "", 0, {"TRACE": 3}),
+            (f"/route/v1/{places}?steps=true&annotations=nodes,speed", "", 0, {"PLACE": 3, "PAIR": 2, "POINT": 4 * 5}),
+            ("/isochrone/v1/car/0,0?contours_minutes=0.2,0.5&bearings=90,20", "", 0, {"BEARING": 1, "REACH": 38, "CONTOUR": 2}),
+        ):
+            with mock.patch.object(service.meter, "begin", wraps=service.meter.begin) as begin:
+                assert ask(service, path, lines)[0] == 200
+            assert {work.name: count for work, count in service.meter.counts.items()}.items() >= counts.items(), path
+            assert begin.call_args.args == (pytest.approx(cost) if cost else mock.ANY, True, bool(lines))
+        environ = {**environ_of("/nodes/lengths", 20 * line.replace(" ", "")), "domethyme.has_slot": False}
+        with mock.patch("domethyme_service.costs.SHORT", 5000), pytest.raises(NeedsSlot):
+            service(environ, None)
+        assert b"".join(service(environ | {"domethyme.has_slot": True}, lambda *_: None)).count(b"length") == 20
+        assert ask(service, "/nodes/lengths", line, CONTENT_LENGTH="99")[1][0]["message"] == "the body has not come whole"
+        assert ask(service, "/nodes/lengths", line, HTTP_CONTENT_ENCODING="Identity")[0] == 200
 
     def test_a_network_that_is_written_in_place(self):
         """An answer while it is being written, or after which it has been, is right, or an error inside: about the map, the nearest road, a

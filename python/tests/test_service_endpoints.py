@@ -47,11 +47,14 @@ class TableTests(unittest.TestCase):
     ("route", 2, 500), ("nearest", 1, 1), ("table", 1, 2000), ("trip", 2, 500), ("match", 2, 500), ("isochrone", 1, 1),
 ])
 def test_how_many_places_there_may_be(service, least, most):
-    """Places may be at all ends of the earth."""
+    """Places may be at all ends of the earth; and the last one may be named by its number."""
+    names = {"route": "waypoints", "match": "waypoints", "table": "sources"}
+
     def ended(count):
         path = f"/{service}/v1/car/{';'.join((['180,90', '-180,-90'] * count)[:count])}"
+        query = {names[service]: f"0;{count - 1}"} if service in names else {}
         try:
-            return len(parse_request(endpoints.find_endpoint(path), path, {}, 1000.0).places)
+            return len(parse_request(endpoints.find_endpoint(path), path, query, 1000.0).places)
         except RequestError as error:
             return error.code
 
@@ -61,11 +64,13 @@ def test_how_many_places_there_may_be(service, least, most):
 
 class EndpointTests(ServiceCase):
     def test_how_long_a_tile_is_kept(self):
-        """A day under the network's number; not at all under another one, since a new network's roads may come for the old one's."""
+        """A day under the network's number, which is asked for anew; not at all under another one, since a new network's roads may
+        come for the old one's."""
         self.serve("--network", self.folder / "v")
-        version = self.ask("/map/about")[1]["version"]
-        for query, kept in (("", "public, max-age=86400"), (f"?v={version}", "public, max-age=86400"), ("?v=0123abcd", "no-store")):
-            self.assertEqual(self.ask(f"/map/roads/14/8192/8191{query}")[0], 200)
+        version, tile, day = self.ask("/map/about")[1]["version"], "/map/roads/14/8192/8191", "public, max-age=86400"
+        kept_by_path = {tile: day, f"{tile}?v={version}": day, f"{tile}?v=0123abcd": "no-store", "/map/about": "no-cache"}
+        for path, kept in kept_by_path.items():
+            self.assertEqual(self.ask(path)[0], 200)
             self.assertEqual(self.headers["Cache-Control"], kept)
 
     def test_parameters_that_are_not_there(self):

@@ -35,8 +35,9 @@ class NodesTests(ServiceCase):
         self.assertEqual(found[9]["message"], "a name is there twice")
         self.assertEqual(self.ask("/nodes/lengths", "POST", ""), (200, ""))
         # (lines that are parsed at once where all of them are right)
-        for wrong, says in ((line.ljust(256) + "}", "a line has at most 256 bytes"), ('{"from": 39, "to": 1}', "from has to be a node from 1 to 38"),
-                            ('{"from": 1, "to": 39}', "to has to be a node from 1 to 38"), ('{"from": 1, "to": 0}', "to has to be a node from 1 to 38")):
+        none = "has to be a node from 1 to 38"
+        for wrong, says in ((line.ljust(256) + "}", "a line has at most 256 bytes"), ('{"from": 39, "to": 1}', f"from {none}"),
+                            ('{"from": 1, "to": 39}', f"to {none}"), ('{"from": 1, "to": 0}', f"to {none}")):
             text = self.ask("/nodes/lengths", "POST", f'{{"from": 38, "to": 38}}\n{wrong}\n{{"from": 1, "to": 1}}')[1]
             self.assertEqual([json.loads(line).get("message") for line in text.splitlines()], [None, says, None])
 
@@ -45,9 +46,10 @@ class NodesTests(ServiceCase):
         self.serve()
         line = '{"from": 1, "to": 2}'
         most = "\n".ljust((4 << 20) - len(line))
-        for count, end, is_whole in ((1, "", True), (256, "", True), (256, "\n", True), (257, "", False), (257, "\n", False), (1, most, True)):
+        for count, end in ((1, ""), (256, ""), (256, "\n"), (257, ""), (257, "\n"), (1, most)):
             status, text = self.ask("/nodes/lengths", "POST", "\n".join([line] * count) + end)
-            self.assertEqual((status, text.count("\n"), "Content-Length" in self.headers), (200, count, is_whole), (count, len(end)))
+            is_whole = "Content-Length" in self.headers
+            self.assertEqual((status, text.count("\n"), is_whole), (200, count, count <= 256), (count, len(end)))
         self.assertEqual(self.ask("/nodes/lengths", "POST", line + most + " ")[0], 413)
 
     def test_too_many_faults_in_a_batch(self):

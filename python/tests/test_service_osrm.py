@@ -34,29 +34,31 @@ def test_other_routes(tmp_path):
         roads += [Road(*step, weight, None) for step, weight in zip(itertools.pairwise(line), weights)]
     prepared(nodes, roads, tmp_path / "net").close()
     service, wanted = open_service(tmp_path / "net"), [2.0, 2.1, 2.2, 2.3]
-    for places, asked, count in (
-        *(("0,0;0.02,0", *row) for row in (("false", 1), ("true", 2), ("0", 1), ("1", 2), ("2", 3), ("3", 4), ("9", 4))), ("0,0;0.02,0;0.02,0", "3", 1)
-    ):
-        found = ask(service, f"/route/v1/car/{places}?alternatives={asked}")[1]
-        assert [route["weight"] for route in found["routes"]] == wanted[:count]
-    assert ask(service, "/health")[1]["alternatives"] == 3
+    for asked, count in (("false", 1), ("true", 2), ("0", 1), ("1", 2), ("2", 3), ("3", 4), ("9", 4)):
+        for places, most in (("0,0;0.02,0", 4), ("0,0;0.02,0;0.02,0", 1)):
+            found = ask(service, f"/route/v1/car/{places}?alternatives={asked}")[1]
+            assert [route["weight"] for route in found["routes"]] == wanted[: min(count, most)]
+    assert ask(service, "/health")[1].items() >= {"towards": True, "alternatives": 3}.items()
 
 
 @pytest.mark.parametrize("path, says", [
-    ("nearest/v1/car/47.1,9.5", "there is no road within 1000 m of place 0, 47.1,9.5 (LON,LAT; is it LAT,LON?). {} 0"),
-    ("nearest/v1/car/9.5,49", "there is no road within 1000 m of place 0, 9.5,49 (LON,LAT). {} 0"),
-    ("route/v1/car/9.5,47;9.5,47.1?bearings=90,9;0,9&radiuses=;50.5", "there is no road of that bearing within 50.5 m of place 1, 9.5,47.1 (LON,LAT). {} 1"),
-    ("route/v1/car/9.5,47;9.5,47.1?radiuses=;0&bearings=90,9;", "there is no road within 0 m of place 1, 9.5,47.1 (LON,LAT). {} 1"),
-    ("route/v1/car/9.5,47;200,10", "place 1 is 200,10: longitude first, from -180 to 180, then latitude, from -90 to 90"),
-    ("route/v1/car/10,100;9.5,47", "place 0 is 10,100: longitude first, from -180 to 180, then latitude, from -90 to 90; is it LAT,LON?"),
+    ("nearest/v1/car/47.1,9.5", "{road} within 1000 m of place 0, 47.1,9.5 (LON,LAT; is it LAT,LON?). {box} 0"),
+    ("nearest/v1/car/9.5,49", "{road} within 1000 m of place 0, 9.5,49 (LON,LAT). {box} 0"),
+    ("route/v1/car/9.5,47;9.5,47?bearings=90,9;0,9&radiuses=;50.5",
+     "{road} of that bearing within 50.5 m of place 1, 9.5,47 (LON,LAT). {box} 1"),
+    ("route/v1/car/9.5,47;9.5,47.1?radiuses=;0&bearings=90,9;", "{road} within 0 m of place 1, 9.5,47.1 (LON,LAT). {box} 1"),
+    ("route/v1/car/9.5,47;200,10", "place 1 is 200,10: {first}"),
+    ("route/v1/car/10,100;9.5,47", "place 0 is 10,100: {first}; is it LAT,LON?"),
     ("match/v1/car/9.5,47;9.5,49;9.501,47?waypoints=0;1;2", "place 1 is one of waypoints, and has no match"),
     ("route/v1/car/9.5,47;9.501,47?exclude=toll,ferry", "exclude=ferry,toll isn't answered: it was started without --exclude"),
 ])
 def test_what_messages_say(tmp_path, path, says):
-    """Which place is meant, whether both of its numbers may be the wrong way round, and at the end its number, as VROOM reads it."""
+    """Which place is meant, whether its numbers may be the wrong way round, and at the end its own number, as VROOM reads it."""
     prepared([(9.5, 47.0), (9.501, 47.0)], [Road(0, 1, 1000, 1000)], tmp_path / "net").close()
     message = ask(open_service(tmp_path / "net"), f"/{path}")[1]["message"]
-    assert message == says.format("The roads are from 9.5000,47.0000 to 9.5010,47.0000. No segment for coordinate")
+    box = "The roads are from 9.5000,47.0000 to 9.5010,47.0000. No segment for coordinate"
+    first = "longitude first, from -180 to 180, then latitude, from -90 to 90"
+    assert message == says.format(road="there is no road", box=box, first=first)
 
 
 class RequestTests(OsrmCase):

@@ -43,7 +43,8 @@ class FileTests(ServiceCase):
     def test_without_a_network(self):
         self.serve()
         self.assertEqual(self.ask("/")[0], 200)
-        self.assertEqual(self.ask("/map/about")[1]["code"], "InvalidService")
+        for path in ("/map/about", "/map/roads/1/0/0", "/route/v1/car/0,0;1,1", "/isochrone/v1/car/0,0?contours_minutes=1"):
+            self.assertEqual(self.ask(path)[1]["code"], "InvalidService")
 
 
 class ColourTests(unittest.TestCase):

@@ -28,7 +28,7 @@ def crossing(*forbidden: tuple[int, int], north: str = "North Lane", end: tuple[
     ends = [(start, end, name.replace("North Lane", north)) for start, end, name in [*ROADS, (4, 0, "South Lane")]]
     ways = {frozenset((1, 0)): 1, frozenset((0, 2)): 2, frozenset((0, 3)): 3, frozenset((4, 0)): 4}
     arcs = [
-        Arc(one, other, 8006, 8.006, 111.2, (places[one], places[other]), ways[frozenset((one, other))], name) for one, other, name in ends
+        Arc(*pair, 8006, 8.006, 111.2, (places[pair[0]], places[pair[1]]), ways[frozenset(pair)], name) for *pair, name in ends
     ]
     roads = Network([Node(*place, osm=number + 1) for number, place in enumerate(places)], arcs, forbidden)
     return Drawn(roads, split(roads) if forbidden else roads, False)
@@ -74,15 +74,15 @@ def test_turns_of_45_degrees(tmp_path: pathlib.Path, end: tuple[float, float], s
 
 
 def test_annotations(tmp_path: pathlib.Path) -> None:
-    """Segments of a bend have their shares of the arc's figures, and of what is driven; ids are those of nodes, and what takes no time has no
-    speed."""
+    """Segments of a bend have their shares of the arc's figures, of what is driven; ids are those of nodes, and what takes no time
+    has no speed."""
     lines = ((0.0, 0.0), (0.001, 0.0), (0.003, 0.0)), ((0.003, 0.0), (0.003, 0.001))
     nodes = [Node(*place, osm=number) for number, place in enumerate((*lines[0][::2], lines[1][1]), 1)]
     roads = Network(nodes, [Arc(0, 1, 9000, 9.0, 450.0, lines[0]), Arc(1, 2, 0, 0.0, 100.0, lines[1], 1)])
     write_network(Drawn(roads, roads, False), tmp_path / "net")
     found = ask(open_service(tmp_path / "net"), "/route/v1/car/0,0;0.0015,0;0.003,0.001?annotations=true")[1]
-    seconds, metres, speeds, ids = [[3.0, 1.5], [4.5, 0.0]], [[150.0, 75.0], [225.0, 100.0]], [[50.0, 50.0], [50.0, 0.0]], [[1, 0, 0], [0, 2, 3]]
-    rows = zip(seconds, seconds, metres, [[0, 0], [0, 0]], speeds, ids)
+    seconds, metres = [[3.0, 1.5], [4.5, 0.0]], [[150.0, 75.0], [225.0, 100.0]]
+    rows = zip(seconds, seconds, metres, [[0, 0], [0, 0]], [[50.0, 50.0], [50.0, 0.0]], [[1, 0, 0], [0, 2, 3]])
     assert [[*leg["annotation"].values()] for leg in found["routes"][0]["legs"]] == [*map(list, rows)]
 
 

@@ -205,7 +205,8 @@ def leg_answer(
     if request.value("steps") == "true":
         lines = [arc_line(network, part) for part in leg]
         found["steps"] = shown = steps(network, *ends, leg, lines, request.value("geometries", "polyline"), figures)
-        found["summary"] = ", ".join([*dict.fromkeys(filter(None, (step["name"] for step in shown)))][:2]) if isinstance(shown, list) else TEXT
+        names = [*dict.fromkeys(step["name"] for step in shown if step["name"])] if isinstance(shown, list) else None
+        found["summary"] = TEXT if names is None else ", ".join(names[:2])
     if names := request.annotations():
         found["annotation"] = annotation(network, leg, names, total)
     return found
