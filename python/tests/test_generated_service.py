@@ -246,11 +246,11 @@ def check_nodes(made: Drawn, service: Service, pairs: list[tuple[int, int]]) -> 
     for words in (numbers, keys)[: 1 + made.has_keys]:
         lines = "".join(f"{json.dumps(each)}\n" for each in words)
         batches = [ask(service, f"/nodes/{what}", lines)[1] for what in ("routes", "lengths")]
-        for (one, other), asked, number, key, *answers in zip(pairs, words, numbers, keys, *batches, strict=True):
+        for (one, other), asked, number, key, *batched in zip(pairs, words, numbers, keys, *batches, strict=True):
             length, query = net.lengths({one: 0}).get(other), urllib.parse.urlencode(asked)
             expected = {**number, "length": length, **key}
-            assert answers[1] == ask(service, f"/nodes/length?{query}")[1] == expected
-            for found in (answers[0], ask(service, f"/nodes/route?{query}")[1]):
+            assert batched[1] == ask(service, f"/nodes/length?{query}")[1] == expected
+            for found in (batched[0], ask(service, f"/nodes/route?{query}")[1]):
                 nodes = found["nodes"] and [node - 1 for node in found["nodes"]]
                 assert found == {**expected, "arcs": net.fewest_arcs(one, other), "nodes": found["nodes"]}
                 assert nodes is None if length is None else net.is_path(nodes, one, other, length)

@@ -4,13 +4,15 @@ import signal
 import unittest.mock
 import urllib.parse
 
+import numpy as np
 import pytest
 from reach_case import Road, lengths, prepared
 from service_case import ServiceCase
 from shapely.geometry import shape
+from tool_case import ROOT
 
 from domethyme.network import net_file
-from domethyme.network.isochrones import Style, features, limits
+from domethyme.network.isochrones import Drawn, Style, features, limits
 from domethyme.network.reach import Reach
 from domethyme_service import endpoints, isochrone, osrm_request
 from domethyme_service.costs import Meter
@@ -110,9 +112,20 @@ class TowardsTests(ServiceCase):
                 self.wait_for(lambda: any("reloaded" in line for line in self.said))
 
 
+@pytest.mark.parametrize("kind, counts", [
+    ("Polygon", [1]), ("Polygon", [3]), ("Polygon", [2, 1, 3]), ("LineString", [1]), ("LineString", [1, 1]),
+])
+def test_geometries_are_those_of_the_package(kind, counts):
+    """Each polygon has its own holes."""
+    draw = np.random.default_rng(1)
+    drawn = Drawn(kind, [[draw.uniform(-180, 180, (99 + ring, 2)).round(6) for ring in range(count)] for count in counts])
+    assert json.loads(isochrone.geometry_text(drawn)) == drawn.geometry
+
+
 @pytest.mark.parametrize("most, is_refused", [(2, False), (1, True)])
 def test_nodes_that_may_be_reached(tmp_path, most, is_refused):
-    """Two are, of three."""
+    """Two are, of three; and as many as the page says."""
+    assert f"Beyond {isochrone.MAX_REACHED:,} nodes" in (ROOT / "docs/SERVICE.md").read_text(encoding="utf-8")
     roads = [Road(0, 1, 1000, 1000), Road(1, 2, 90_000, 90_000)]
     with prepared([(0, 0), (0.001, 0), (0.002, 0)], roads, tmp_path / "row") as row:
         meter = Meter()

@@ -82,8 +82,7 @@ class NodesTests(ServiceCase):
         size = int(self.headers["Content-Length"])
         counted = 'requests_total{endpoint="/nodes/length",status="200"}'
         self.wait_for(lambda: counted in self.ask("/metrics")[1])  # (an answer is counted once it has gone)
-        self.assertEqual(self.value(counted), 1)
-        self.assertEqual(self.value("questions_total"), 1)
+        self.assertEqual([self.value(name) for name in (counted, "questions_total", "nodes")], [1, 1, self.graph.nodes])
         self.assertEqual(self.headers["Content-Type"], "text/plain; version=0.0.4; charset=utf-8")
         self.ask("/nodes/length?from=1&to=0")
         text = self.ask("/metrics")[1]
