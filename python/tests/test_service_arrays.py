@@ -8,7 +8,7 @@ from domethyme_service import json_text, osrm_geometry
 from domethyme_service.costs import Meter
 from domethyme_service.errors import RequestError
 from domethyme_service.json_text import decimal_texts, number_texts, point_texts
-from domethyme_service.osrm_geometry import MAX_GEOS_POINTS, Budget, simplified
+from domethyme_service.osrm_geometry import MAX_GEOS_POINTS, Budget, simplified, simplify_lines
 
 
 @pytest.fixture(autouse=True, params=[None, 76])
@@ -43,6 +43,16 @@ def test_both_ways_keep_the_same_points(line, tolerance):
     assert by_geos[0] == 0 and by_geos[-1] == len(line) - 1 and len(by_geos) >= 2
     if tolerance:  # (without one GEOS drops points of straight lines by other last digits)
         assert by_geos == by_levels
+
+
+@pytest.mark.parametrize("aside, count", [(9, 2), (11, 3)])
+def test_a_thousandth_of_the_extent(aside, count):
+    """That is of all legs, by the latitude if they lead east, here of 10,000 microdegrees; also across the 180th meridian, and north."""
+    east = np.array([(0, 0), (2000, aside), (4000, 0), (20_000, 0)]) + (0, 60_000_000)
+    across = np.column_stack(((east[:, 0] + 359_990_000) % 360_000_000 - 180_000_000, east[:, 1]))
+    north = np.column_stack((east[:, 1] - 60_000_000, east[:, 0] // 2))
+    for line in (east, across, north):
+        assert [*map(len, simplify_lines([line[:3], line[2:]], budget()))] == [count, 2]
 
 
 def test_a_zigzag_whose_points_lie_ever_nearer():

@@ -26,7 +26,7 @@ from domethyme.network.from_tables import load_network
 from domethyme_service import access, endpoints, osrm_request, parameters, worker, wsgi
 from domethyme_service.costs import Meter, Work
 from domethyme_service.errors import RequestError
-from domethyme_service.osrm_geometry import Budget, simplified
+from domethyme_service.osrm_geometry import Budget
 
 PATH = "/nodes/length?from=1&to=2"
 HIGH = "0.0003,0.00001;0.0077,-0.00002"
@@ -388,8 +388,6 @@ class BudgetTests(unittest.TestCase):
         self.assertEqual(budget.meter.counts, {Work.POINT: 4_500_000})
         with self.assertRaisesRegex(RequestError, "more than 1500000 points"):
             budget.spend(1)
-        with self.assertRaises(RequestError):
-            simplified(np.zeros((1000, 2)), -1.0, small())
 
 
 class PatternTests(unittest.TestCase):
@@ -439,12 +437,6 @@ def hostile(whole, rows):
     head["sum"] = 0
     head["sum"] = zlib.crc32(tail, zlib.crc32(head.tobytes()))
     return head.tobytes() + whole[HEAD.itemsize : int(head["tail"][0])] + tail
-
-
-def small():
-    budget = Budget(Meter(), 1)
-    budget.examined = 100
-    return budget
 
 
 if __name__ == "__main__":

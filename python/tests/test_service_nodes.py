@@ -39,7 +39,7 @@ class NodesTests(ServiceCase):
         for wrong, says in ((line.ljust(256) + "}", "a line has at most 256 bytes"), ('{"from": 39, "to": 1}', f"from {none}"),
                             ('{"from": 1, "to": 39}', f"to {none}"), ('{"from": 1, "to": 0}', f"to {none}")):
             text = self.ask("/nodes/lengths", "POST", f'{{"from": 38, "to": 38}}\n{wrong}\n{{"from": 1, "to": 1}}')[1]
-            self.assertEqual([json.loads(line).get("message") for line in text.splitlines()], [None, says, None])
+            self.assertEqual([each.get("message", each.get("to")) for each in map(json.loads, text.splitlines())], [38, says, 1])
 
     def test_a_batch_of_one_block_is_sent_whole(self):
         """With its length, so a client, and nginx, knows where it ends."""
