@@ -1,5 +1,4 @@
-"""OSRM's API: large tables, other routes, messages, and what is logged."""
-import itertools
+"""OSRM's API: large tables, gaps of traces, messages, and what is logged."""
 import json
 
 import pytest
@@ -24,21 +23,17 @@ class OsrmCase(ServiceCase):
         return found
 
 
-def test_other_routes(tmp_path):
-    """As many as are asked for, to three, between two places: of five ways the lightest ones, in order."""
-    nodes, roads = [(0.0, 0.0), (0.02, 0.0)], []
-    for number, weights in enumerate([(1000, 1000), *((550, 1000 + 100 * more, 550) for more in range(4))]):
-        inner = [(0.02 * (place + 1) / len(weights), 0.002 * number) for place in range(len(weights) - 1)]
-        line = [0, *range(len(nodes), len(nodes) + len(inner)), 1]
-        nodes += inner
-        roads += [Road(*step, weight, None) for step, weight in zip(itertools.pairwise(line), weights)]
-    prepared(nodes, roads, tmp_path / "net").close()
-    service, wanted = open_service(tmp_path / "net"), [2.0, 2.1, 2.2, 2.3]
-    for asked, count in (("false", 1), ("true", 2), ("0", 1), ("1", 2), ("2", 3), ("3", 4), ("9", 4)):
-        for places, most in (("0,0;0.02,0", 4), ("0,0;0.02,0;0.02,0", 1)):
-            found = ask(service, f"/route/v1/car/{places}?alternatives={asked}")[1]
-            assert [route["weight"] for route in found["routes"]] == wanted[: min(count, most)]
-    assert ask(service, "/health")[1].items() >= {"towards": True, "alternatives": 3}.items()
+@pytest.mark.parametrize("gaps, ways, stops", [
+    ("split", [0, 0, 0, 1, 1, 1], [0, None, 1, 0, None, 1]), ("ignore", [0] * 6, [0, None, None, None, None, 1]),
+])
+def test_a_trace_with_a_gap(tmp_path, gaps, ways, stops):
+    """The ends of each way are ends of legs, and of the others those of `waypoints`, which may be on different ways."""
+    prepared([(0, 0), (0.02, 0)], [Road(0, 1, 20_000, 20_000)], tmp_path / "net").close()
+    places = ";".join(f"{0.001 + 0.003 * number:.3f},0" for number in range(6))
+    path = f"/match/v1/car/{places}?timestamps=0;10;20;900;910;920&waypoints=0;5&gaps={gaps}"
+    found = ask(open_service(tmp_path / "net"), path)[1]
+    assert [(point["matchings_index"], point["waypoint_index"]) for point in found["tracepoints"]] == [*zip(ways, stops)]
+    assert [len(way["legs"]) for way in found["matchings"]] == [1] * len({*ways})
 
 
 @pytest.mark.parametrize("path, says", [
@@ -90,7 +85,7 @@ class RequestTests(OsrmCase):
     def test_messages(self):
         """Errors name the place, the extent of the roads, and that longitudes come first."""
         for path, says in (
-            ("/route/v1/car/0,0;0.5,0.5", ("place 1, 0.5,0.5 (LON,LAT)", "The roads are from -0.0055,-0.0010 to ", "within 5000 m")),
+            ("/route/v1/car/0,0;0.5,0.5", ("The roads are from -0.0055,-0.0010 to ", "within 5000 m")),
             (f"/route/v1/car/{HIGH};0.020,0.005", ("no route from place 1 to place 2",)),
             (f"/route/v1/car/{HIGH};0.020,0.005?continue_straight=true", ("no route from place 1 to place 2",)),
         ):
