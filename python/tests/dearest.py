@@ -87,15 +87,14 @@ class Climber:
 
     def ask(self, asked):
         """The units that a request has spent."""
+        from test_generated_service import environ_of
+
         from domethyme_service.costs import NeedsSlot
 
         where = ";".join(f"{lon:.5f},{lat:.5f}" for lon, lat in asked["places"])
         target = f"/{asked['service']}/v1/car/{where}?" + "&".join(f"{name}={text}" for name, text in asked["query"].items())
         has_slot, heads = self.draw.random() < 0.7, []
-        environ = {
-            "RAW_URI": target, "REQUEST_METHOD": "GET", "HTTP_HOST": "x", "SERVER_PROTOCOL": "HTTP/1.1", "REMOTE_ADDR": "127.0.0.1",
-            "SERVER_NAME": "127.0.0.1", "domethyme.has_slot": has_slot,
-        }
+        environ = {**environ_of(target), "domethyme.has_slot": has_slot}
         self.service.meter.begin(0, True)
         begun, size = time.process_time(), 0
         try:

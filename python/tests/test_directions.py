@@ -20,6 +20,7 @@ from model.alternatives import alternatives as every_alternative
 from model.answers import Refused, figures, leg_line, straight_legs
 from model.network import Ambiguous, Arc, Network, Node
 from reach_case import Road, prepared
+from test_generated_service import ask, open_service
 from tool_case import VILLAGE, ToolCase
 
 import domethyme
@@ -196,17 +197,19 @@ def check_alternative(net: Network, arrays: Any, leg: Any, sides: list[dict[int,
         assert leg.weight - total >= plateau or back[node] == leg.weight - total
 
 
-@pytest.mark.parametrize("first, middle, long, wanted", [
-    (1500, 500, 500, [2000, 2100, 2200, 2500]), (1501, 400, 501, [2000, 2200]), (1500, 399, 501, [2000, 2100]),
+@pytest.mark.parametrize("ways, forks, wanted", [
+    ([(1500, 500), (850, 500, 850), (1000, 500, 1000)], [(100, 400, 100)], [2000, 2100, 2200, 2500]),
+    ([(1501, 499), (900, 400, 900), (1000, 501, 1000)], [(100, 400, 100)], [2000, 2200]),
+    ([(1500, 500), (901, 399, 900), (1000, 501, 1000)], [(100, 400, 100)], [2000, 2100]),
+    ([(1000, 1000), *[(550, middle, 550) for middle in (1300, 1000, 1200, 1100)]], [], [2000, 2100, 2200, 2300]),
 ])
-def test_alternatives_by_hand(tmp_path: pathlib.Path, first: int, middle: int, long: int, wanted: list[int]) -> None:
+def test_alternatives_by_hand(tmp_path: pathlib.Path, ways: list[Any], forks: list[Any], wanted: list[int]) -> None:
     """Beside a way of 2000 one of 2200, whose middle is a plateau: a fifth of 2000 is enough. A way of 2501 is too long. A fork
-    leaves the first way behind 1500: so much they may have in common."""
-    ways = [[first, 2000 - first], [1100 - middle // 2, middle, 1100 - middle + middle // 2], [1000, long, 1000], [100, 400, 100]]
+    leaves the first way behind 1500: so much they may have in common. The service has as many as it is asked for, between two places."""
     nodes, roads = [(0.0, 0.0), (0.02, 0.0)], []
-    for number, weights in enumerate(ways):
+    for number, weights in enumerate([*ways, *forks]):
         inner = [(0.02 * (place + 1) / len(weights), 0.002 * number) for place in range(len(weights) - 1)]
-        line = [0 if number < 3 else 2, *range(len(nodes), len(nodes) + len(inner)), 1]
+        line = [0 if number < len(ways) else 2, *range(len(nodes), len(nodes) + len(inner)), 1]
         nodes += inner
         roads += [Road(*step, weight, None) for step, weight in zip(itertools.pairwise(line), weights)]
     with prepared(nodes, roads, tmp_path / "net") as hierarchy:
@@ -218,6 +221,12 @@ def test_alternatives_by_hand(tmp_path: pathlib.Path, first: int, middle: int, l
         for some, count in ((ends[:1], 3), (ends, 4), (ends, True)):
             with pytest.raises(ValueError):
                 hierarchy.alternatives(some, count)
+    service = open_service(tmp_path / "net")
+    for asked, most in (("false", 1), ("true", 2), ("0", 1), ("1", 2), ("2", 3), ("3", 4), ("9", 4)):
+        for more, count in (("", most), (";0.02,0", 1)):
+            found = ask(service, f"/route/v1/car/0,0;0.02,0{more}?alternatives={asked}")[1]["routes"]
+            assert [route["weight"] for route in found] == [weight / 1000 for weight in wanted[:count]]
+    assert ask(service, "/health")[1].items() >= {"towards": True, "alternatives": 3}.items()
 
 
 @pytest.mark.parametrize("middle, away, inside, outside", [
@@ -393,10 +402,10 @@ class FramesTests(ToolCase):
                 hierarchy.directions(wrong)
         with pytest.raises(ValueError, match="one for each place"):
             hierarchy.directions(places, bearings=[(0, 10)])
-        for words in ({"radius": "5"}, {"radius": True}, {"radius": None}, {"radius": math.nan}, {"radiuses": [math.nan, None, None]}):
-            for ask in (hierarchy.directions, hierarchy.table, lambda _, radius: hierarchy.nearest(*places[0], radius=radius)):
+        for words in ({"radius": "x"}, {"radius": "5"}, {"radius": True}, {"radius": None}, {"radius": math.nan}, {"radiuses": [math.nan, None, None]}):
+            for act in (hierarchy.directions, hierarchy.table, lambda _, radius: hierarchy.nearest(*places[0], radius=radius)):
                 with pytest.raises(ValueError, match="radius.* to be numbers, and one is"):
-                    (hierarchy.directions if "radiuses" in words else ask)(places, **words)
+                    (hierarchy.directions if "radiuses" in words else act)(places, **words)
         with pytest.raises(ValueError, match="approaches are .unrestricted. or .curb., and not .left."):
             hierarchy.directions(places, approaches=["left", None, "curb"])
         with pytest.raises(ValueError, match="a bearing is"):
