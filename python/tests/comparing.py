@@ -124,9 +124,10 @@ class Simplified(NamedTuple):
 
 
 def thinned(line: Points, most: float, shrink: float) -> list[Point]:
-    """A line by the rule of Douglas and Peucker."""
+    """A line by the rule of Douglas and Peucker, which goes on at the first of the points that are as far away."""
     flat = [(lon * shrink, lat) for lon, lat in line]
-    away, far = max(((away_from(point, flat[0], flat[-1]), step) for step, point in enumerate(flat[1:-1], 1)), default=(0.0, 0))
+    rows = enumerate((away_from(point, flat[0], flat[-1]) for point in flat[1:-1]), 1)
+    far, away = max(rows, default=(0, 0.0), key=lambda row: row[1])
     if away <= most:
         return [line[0], line[-1]]
     return [*thinned(line[: far + 1], most, shrink)[:-1], *thinned(line[far:], most, shrink)]

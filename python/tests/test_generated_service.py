@@ -26,6 +26,7 @@ from model.steps import modifier_of
 
 import domethyme
 from domethyme_service import osrm, osrm_tables
+from domethyme_service import osrm, osrm_tables, osrm_trip
 from domethyme_service import osrm_tables, tiles
 from domethyme_service.access import AccessPolicy
 from domethyme_service.dataset import DatasetPaths, open_dataset
@@ -35,6 +36,11 @@ from domethyme_service.wsgi import Options, Service
 REQUESTS = 6
 # How many places a request of each service has, at most: the small numbers are likelier.
 COUNTS = {"route": [2, 2, 2, 3, 4, 12], "nearest": [1], "table": [1, 2, 3, 6], "trip": [2, 3, 3, 4], "match": [2, 3, 4], "isochrone": [1]}
+# Parameters that a request has more often than others.
+OFTEN = (
+    "bearings", "approaches", "steps", "overview", "annotations", "waypoints", "snapping", "continue_straight", "sources", "destinations",
+    "fallback_speed", "fallback_coordinate", "scale_factor", "roundtrip", "source", "destination"
+)
 
 
 def serve(drawn: Drawn, folder: pathlib.Path) -> Service:
@@ -72,8 +78,7 @@ def requests(draw: Any, drawn: Drawn, service: str) -> tuple[Request, set[str]]:
     count, is_wrong = draw(st.sampled_from(COUNTS[service])), draw(st.integers(0, 5)) == 0
     where = draw(places(drawn.roads, count))
     texts = texts_of(service, count, directions(drawn.roads), is_wrong)
-    names = ["bearings", "approaches", "steps", "overview", "annotations", "waypoints", "snapping", *(["radiuses", "timestamps"] if service == "match" else [])]
-    often = [name for name in names for _ in range(4) if name in texts]
+    often = [name for name in (*OFTEN, *(["radiuses", "timestamps"] if service == "match" else [])) for _ in range(4) if name in texts]
     chosen = draw(st.lists(st.sampled_from([*sorted(texts), *often]), max_size=6))
     rows = {name: draw(texts[name]) for name in dict.fromkeys(chosen)}
     return Request(service, where, {name: text for name, (text, _) in rows.items()}), {code for _, code in rows.values()} - {""}
@@ -90,7 +95,7 @@ def target(request: Request) -> str:
 def test_routes_nearest_tables_and_trips(data: Any) -> None:
     made = data.draw(networks())
     with tempfile.TemporaryDirectory() as folder, mock.patch.multiple(osrm_tables, NODE_CELLS=8, SUMMED_CELLS=8), \
-            mock.patch.object(osrm, "SNAP_BATCH", 2):  # (so that tables, and places, come in parts)
+            mock.patch.object(osrm_trip, "NODE_CELLS", 8), mock.patch.object(osrm, "SNAP_BATCH", 2):  # (so that these come in parts)
         service = serve(made, pathlib.Path(folder))
         for _ in range(REQUESTS):
             drawn_request = data.draw(requests(made, data.draw(st.sampled_from(["route", "route", "nearest", "table", "trip"]))))
