@@ -402,7 +402,7 @@ class FramesTests(ToolCase):
                 hierarchy.directions(wrong)
         with pytest.raises(ValueError, match="one for each place"):
             hierarchy.directions(places, bearings=[(0, 10)])
-        for words in ({"radius": "x"}, {"radius": "5"}, {"radius": True}, {"radius": None}, {"radius": math.nan}, {"radiuses": [math.nan, None, None]}):
+        for words in ({"radius": "5"}, {"radius": True}, {"radius": None}, {"radius": math.nan}, {"radiuses": [math.nan, None, None]}):
             for act in (hierarchy.directions, hierarchy.table, lambda _, radius: hierarchy.nearest(*places[0], radius=radius)):
                 with pytest.raises(ValueError, match="radius.* to be numbers, and one is"):
                     (hierarchy.directions if "radiuses" in words else act)(places, **words)

@@ -38,8 +38,8 @@ REQUESTS = 6
 COUNTS = {"route": [2, 2, 2, 3, 4, 12], "nearest": [1], "table": [1, 2, 3, 6], "trip": [2, 3, 3, 4], "match": [2, 3, 4], "isochrone": [1]}
 # Parameters that a request has more often than others.
 OFTEN = (
-    "bearings", "approaches", "steps", "overview", "annotations", "waypoints", "snapping", "continue_straight", "sources", "destinations",
-    "fallback_speed", "fallback_coordinate", "scale_factor", "roundtrip", "source", "destination"
+    "bearings", "approaches", "steps", "overview", "annotations", "waypoints", "snapping", "continue_straight", "sources",
+    "destinations", "fallback_speed", "fallback_coordinate", "scale_factor", "roundtrip", "source", "destination"
 )
 
 
@@ -78,7 +78,8 @@ def requests(draw: Any, drawn: Drawn, service: str) -> tuple[Request, set[str]]:
     count, is_wrong = draw(st.sampled_from(COUNTS[service])), draw(st.integers(0, 5)) == 0
     where = draw(places(drawn.roads, count))
     texts = texts_of(service, count, directions(drawn.roads), is_wrong)
-    often = [name for name in (*OFTEN, *(["radiuses", "timestamps"] if service == "match" else [])) for _ in range(4) if name in texts]
+    names = (*OFTEN, *(["radiuses", "timestamps"] if service == "match" else []))
+    often = [name for name in names for _ in range(4) if name in texts]
     chosen = draw(st.lists(st.sampled_from([*sorted(texts), *often]), max_size=6))
     rows = {name: draw(texts[name]) for name in dict.fromkeys(chosen)}
     return Request(service, where, {name: text for name, (text, _) in rows.items()}), {code for _, code in rows.values()} - {""}

@@ -47,7 +47,7 @@ def test_both_ways_keep_the_same_points(line, tolerance):
 
 @pytest.mark.parametrize("aside, count", [(9, 2), (11, 3)])
 def test_a_thousandth_of_the_extent(aside, count):
-    """That is of all legs, by the latitude if they lead east, here of 10,000 microdegrees; also across the 180th meridian, and north."""
+    """That is of all legs, by the latitude if they lead east, here of 10,000 microdegrees; across the 180th meridian, and north."""
     east = np.array([(0, 0), (2000, aside), (4000, 0), (20_000, 0)]) + (0, 60_000_000)
     across = np.column_stack(((east[:, 0] + 359_990_000) % 360_000_000 - 180_000_000, east[:, 1]))
     north = np.column_stack((east[:, 1] - 60_000_000, east[:, 0] // 2))

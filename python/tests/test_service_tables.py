@@ -7,7 +7,7 @@ from test_generated_service import ask, open_service
 
 
 def test_places_that_are_named_twice(tmp_path):
-    """They have the rows, the columns and the cells without a path, between places or points of roads, of a table that names each once."""
+    """They have the rows, columns and cells without a path, by places or points of roads, of a table that names each once."""
     nodes, roads = [(0, 0), (0.001, 0), (0.002, 0.001), (0.003, 0.001)], [Road(0, 1, 1000, 2000), Road(2, 3, 3000, 4000)]
     prepared(nodes, roads, tmp_path / "net").close()
     path = "/table/v1/car/0,0;0.001,0;0.002,0.0012?annotations=duration,distance,weight&fallback_speed=10&scale_factor=2"
