@@ -260,6 +260,10 @@ def check_nodes(made: Drawn, service: Service, pairs: list[tuple[int, int]]) -> 
                 nodes = found["nodes"] and [node - 1 for node in found["nodes"]]
                 assert found == {**expected, "arcs": net.fewest_arcs(one, other), "nodes": found["nodes"]}
                 assert nodes is None if length is None else net.is_path(nodes, one, other, length)
+    if made.has_keys:
+        wrong = {"from_key": net.nodes[0].key, "to_key": "nowhere"}
+        errors = ask(service, f"/nodes/length?{urllib.parse.urlencode(wrong)}")[1], *ask(service, "/nodes/lengths", json.dumps(wrong))[1]
+        assert all(each["code"] == "InvalidValue" and each["message"].startswith("to_key ") for each in errors)
 
 
 def check(made: Drawn, service: Service, request: Request, codes: set[str]) -> None:
