@@ -25,9 +25,7 @@ from model.request import Request
 from model.steps import modifier_of
 
 import domethyme
-from domethyme_service import osrm, osrm_tables
-from domethyme_service import osrm, osrm_tables, osrm_trip
-from domethyme_service import osrm_tables, tiles
+from domethyme_service import osrm, osrm_tables, osrm_trip, tiles
 from domethyme_service.access import AccessPolicy
 from domethyme_service.dataset import DatasetPaths, open_dataset
 from domethyme_service.metrics import SharedMetrics

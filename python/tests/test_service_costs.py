@@ -26,9 +26,7 @@ from hypothesis import strategies as st
 from nginx_case import NginxCase
 from service_case import IMPORT, ServiceCase, workers_of
 from test_generated_service import ask, environ_of, open_service
-from test_generated_service import ask, open_service
 from tool_case import PYTHON, ROOT, SECONDS
-from tool_case import ROOT, SECONDS
 
 from domethyme_service import endpoints, queries, slots, worker
 from domethyme_service.costs import MOST, SHORT, Meter, NeedsSlot, Size, Work, expected
