@@ -1,4 +1,5 @@
 """The package on drawn networks, with and without keys: lengths, routes, tables, what is reached, nodes and frames."""
+import itertools
 import json
 import math
 import pathlib
@@ -69,7 +70,7 @@ def test_lengths_routes_and_tables(data: Any) -> None:
             added = st.one_of(st.just(0), st.integers(0, 50_000), st.just((1 << 32) - 1))
             starts, ends = (data.draw(st.dictionaries(nodes, added, min_size=1, max_size=4)) for _ in range(2))
             check_between(asked, starts, ends, data.draw(st.sampled_from(["mapping", "rows", "alone"])))
-            check_reach(asked, starts, data.draw(st.one_of(st.none(), st.integers(0, 100_000))), data.draw(st.booleans()))
+            check_reach(asked, starts, data.draw(st.one_of(st.sampled_from([None, 0, 1 << 62]), st.integers(0, 100_000))), data.draw(st.booleans()))
 
 
 def check_pairs(asked: Asked, pairs: list[tuple[int, int]], form: str) -> None:
@@ -157,13 +158,14 @@ def check_table(asked: Asked, sources: list[int], targets: list[int], forms: lis
     if missing is None:
         table = np.asarray(domethyme.unscaled(found), float).tolist()
         assert table == [[asked.lengths[source].get(target, math.inf) for target in targets] for source in sources]
-    summed = asked.hierarchy.matrix(rows, columns, sums=["metres"])
+    summed = asked.hierarchy.matrix(rows, columns, missing=missing, sums=["metres"])
     lengths = [[asked.lengths[source].get(target, math.inf) for target in targets] for source in sources]
     assert np.asarray(domethyme.unscaled(summed["length"]), float).tolist() == lengths
     for source, row in zip(sources, np.asarray(summed["metres"], float).reshape(len(sources), len(targets)), strict=True):
         millimetres = millimetres_reached(asked.net, asked.lengths[source], {source: 0})
         for target, metres in zip(targets, row, strict=True):
-            assert round(1000 * metres) in millimetres[target] if target in millimetres else math.isnan(metres)
+            is_missing = math.isnan(metres) if missing is None else metres == missing
+            assert round(1000 * metres) in millimetres[target] if target in millimetres else is_missing
 
 
 def check_between(asked: Asked, starts: dict[int, int], ends: dict[int, int], form: str) -> None:
@@ -180,7 +182,7 @@ def check_between(asked: Asked, starts: dict[int, int], ends: dict[int, int], fo
         assert found is None
         return
     first, last = asked.node(found.source), asked.node(found.target)
-    assert found.length == min(sums) == starts[first] + asked.lengths[first][last] + ends[last]
+    assert found.added == starts[first] + ends[last] and found.length == min(sums) == found.added + asked.lengths[first][last]
     assert is_route(asked, found.nodes, found.source, found.target, asked.lengths[first][last])
     check_line(asked, found)
 
@@ -247,8 +249,8 @@ def test_ids_of_a_map(data: Any) -> None:
             found = domethyme.unscaled(summed["length"]).to_numpy().tolist()
             assert found == [[each if each >= 0 else math.inf for each in row] for row in wanted]
             assert all(summed["metres"].loc[key, key] == 0 for key in {*starts} & {*targets})
-            way, there = hierarchy.between(starts, targets), hierarchy.reach(targets, towards=True).fillna(-1)
-            assert (-1 if way is None else way.length) == min((length for length in flat if length >= 0), default=-1)
+            way, there = hierarchy.between(starts, dict.fromkeys(targets, 7)), hierarchy.reach(targets, towards=True).fillna(-1)
+            assert (-1 if way is None else way.length - 7) == min((length for length in flat if length >= 0), default=-1)
             assert way is None or way.source in starts and way.target in targets
             least = [min((each for each in row if each >= 0), default=-1) for row in wanted]
             assert [there.iloc[begins[start]] for start in starts] == least and there.index.tolist() == [*hierarchy.keys]
@@ -301,7 +303,8 @@ def check_roads(hierarchy: domethyme.Hierarchy, roads: Network, where: list[Poin
         return
     found = json.loads(json.dumps(hierarchy.within(place, shape="roads", towards=towards, **{unit: np.array(values)})))["features"]
     for feature, value in zip(found, reversed(values), strict=True):
-        geometry = feature["geometry"]
+        said, geometry = feature["properties"], feature["geometry"]
+        assert (said["contour"], said["metric"]) == (value, {"minutes": "time", "metres": "distance"}[unit])
         parts = [] if geometry is None else geometry["coordinates"]
         parts = [parts] if geometry and geometry["type"] == "LineString" else parts
         lines = [[(lon, lat) for lon, lat in part] for part in parts]
