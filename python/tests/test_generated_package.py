@@ -274,6 +274,9 @@ def test_places(data: Any) -> None:
             if with_limits is not None and is_flat:  # (else the plane of what is reached isn't the earth)
                 for towards in (False, True):
                     check_roads(hierarchy, made.roads, spots[: number + 1][-2:], *with_limits, towards)
+        if made.roads.unit == "distance":
+            with pytest.raises(ValueError, match="aren't a time"):
+                hierarchy.reach([0], minutes=1)
 
 
 def check_nearest(hierarchy: domethyme.Hierarchy, network: Network, place: Point, side: Any) -> None:

@@ -1,5 +1,9 @@
 """Tests of which roads are reached, and of what Hierarchy.reach and within refuse. A thousandth of a degree is 111.195 m along the
 equator, and weighs 1000 there."""
+import os
+import pickle
+import shutil
+
 import numpy as np
 import pytest
 from draws import drawn, run_tool
@@ -100,15 +104,34 @@ def test_towards(row, starts, limit, wanted):
     assert row.reach(starts, limit, towards=True).tolist() == wanted
 
 
-def test_towards_of_another_file_and_of_a_closed_one(tmp_path):
-    """A hierarchy is turned at the first question, if its file is still there."""
-    with prepared(ROW, ROADS, tmp_path / "row") as hierarchy, prepared(ROW, ROADS, tmp_path / "other") as other:
-        assert other.reach([3], towards=True)[0] == 2000
-        (tmp_path / "other.rch").replace(tmp_path / "row.rch")
-        with pytest.raises(domethyme.WrongHierarchy, match="was replaced since it was read, so it can't be turned round"):
-            hierarchy.reach([3], towards=True)
-    for each in (hierarchy, other):
-        with pytest.raises(ValueError, match="closed"):
+def give_another_inode(path):
+    shutil.copy2(path, f"{path}.new")
+    os.replace(f"{path}.new", path)
+
+
+def give_another_time(path):
+    os.utime(path, ns=(0, path.stat().st_mtime_ns + 1))
+
+
+@pytest.mark.parametrize("change", [give_another_inode, give_another_time])
+@pytest.mark.parametrize("ask, why", [
+    (lambda each: pickle.loads(pickle.dumps(each)).length(0, 2), "no other process can read it again"),
+    (lambda each: each.reach([2], towards=True)[0], "it can't be turned round"),
+    (lambda each: each.reach([0], sums=["metres"])["length"][2], "its links can't be summed up"),
+])
+def test_a_file_that_is_read_again(tmp_path, monkeypatch, change, ask, why):
+    """By its whole path, and if it is still the same, at the first such question only."""
+    prepared(ROW, ROADS, tmp_path / "row").close()
+    monkeypatch.chdir(tmp_path)
+    with domethyme.Hierarchy("row.rch", network=tmp_path / "row") as asked, domethyme.Hierarchy("row.rch", network=tmp_path / "row") as late:
+        monkeypatch.chdir("/")
+        assert ask(asked) == 2000
+        change(tmp_path / "row.rch")
+        assert ask(asked) == 2000
+        with pytest.raises(domethyme.WrongHierarchy, match=f"^row.rch: was replaced since it was read, so {why}$"):
+            ask(late)
+    for each in (asked, late):
+        with pytest.raises(ValueError, match="row.rch is closed"):
             each.reach([3], towards=True)
 
 
@@ -163,7 +186,9 @@ def test_arguments_that_are_refused(row, place, words, error, says):
 
 
 def test_without_a_network(row):
-    with domethyme.Hierarchy(row.path) as hierarchy, pytest.raises(ValueError, match="no network"):
-        hierarchy.within((0, 0))
+    with domethyme.Hierarchy(row.path) as hierarchy:
+        with pytest.raises(ValueError, match="no network"):
+            hierarchy.within((0, 0))
+        assert hierarchy.reach([0], minutes=0.03).tolist() == row.reach([0], minutes=0.03).tolist() == [0, 1000, -1, -1, -1, -1]
     with pytest.raises(ValueError, match="closed"):
         hierarchy.reach([0])
