@@ -107,8 +107,9 @@ def test_points_of_another_network(made: Any, data: Any) -> None:
         for edge in (-1, edges):
             with pytest.raises(domethyme.NetworkError, match="place 1 is a point on the roads of another network"):
                 hierarchy.table([own[0], own[1]._replace(edge=edge)])
-        with pytest.raises(ValueError, match="have no bearings, radiuses or approaches"):
-            hierarchy.directions(own, bearings=[None] * len(spots))
+        for word in ("bearings", "radiuses", "approaches"):
+            with pytest.raises(ValueError, match="have no bearings, radiuses or approaches"):
+                hierarchy.directions(own, **{word: [None] * len(spots)})
 
 
 @st.composite
@@ -148,7 +149,7 @@ def test_alternatives(data: Any) -> None:
             return
         shown = hierarchy.alternatives([start, end])
         best, between = hierarchy.directions([start, end]), functools.partial(directions.ask_router, hierarchy._router)
-        assert shown[:1] == ([] if best is None else [best])
+        assert shown[:1] == ([] if best is None else [best]) and hierarchy.alternatives([start, end], 1) == shown[:2]
         first = find_leg(between, hierarchy.network.roads, start, end)
         if first is None:
             return
@@ -372,6 +373,21 @@ def test_long_tours(against: int) -> None:
     assert tours.best_order(lengths, True, "any", "any") is None
 
 
+def test_radius_and_ferries(tmp_path: pathlib.Path) -> None:
+    """All calls between places take a radius, and places on ferries where that is said."""
+    line = (0.0, 0.0), (0.01, 0.0)
+    roads = Network([Node(*place) for place in line], [Arc(*ends, 7, 0.0, 9.0, line[::step], 1, highway="ferry") for ends, step in (((0, 1), 1), ((1, 0), -1))])
+    write_network(Drawn(roads, roads, False), tmp_path / "net")
+    with domethyme.Hierarchy(tmp_path / "net.rch", network=tmp_path / "net") as hierarchy:
+        places = [(0.002, 0.011), (0.009, 0.0)]
+        to_places = functools.partial(hierarchy.table, places[1:])
+        for ask in (hierarchy.directions, hierarchy.table, to_places, hierarchy.tour, hierarchy.alternatives):
+            for words in ({"radius": 1300}, {"snapping": "any"}, {"radius": 1200, "snapping": "any"}):
+                with pytest.raises(domethyme.NoSuchNode):
+                    ask(places, **words)
+            assert ask(places, radius=1300, snapping="any") is not None
+
+
 class FramesTests(ToolCase):
     def test_frames_and_refusals(self) -> None:
         self.run_tool("osm_to_gr", VILLAGE, "v", "--keep-islands")
@@ -385,11 +401,17 @@ class FramesTests(ToolCase):
         table = hierarchy.table(frame, frame.iloc[:2])
         assert table.index.tolist() == ["depot", "shop", "farm"] and table.columns.tolist() == ["depot", "shop"]
         assert table.fillna(-1).to_numpy().tolist() == rows[:, :2].tolist()
-        assert hierarchy.table(places, frame).columns.tolist() == ["depot", "shop", "farm"]
-        assert hierarchy.table(frame, missing=math.inf).to_numpy().tolist() == np.where(rows < 0, math.inf, rows).tolist()
         for sums, what in (((), "lengths"), (["metres"], "sums")):
             with mock.patch.object(batch, "MAX_CELLS", 3), pytest.raises(domethyme.OutOfMemory, match=f"a table of .* {what}"):
                 hierarchy.table(places, sums=sums)
+        axes = hierarchy.table(places[:2], frame).axes + hierarchy.table(frame.iloc[1:], places).axes + hierarchy.table(frame).axes
+        assert [axis.tolist() for axis in axes] == [[0, 1], [*frame.index], [*frame.index[1:]], [0, 1, 2], [*frame.index], [*frame.index]]
+        apart = pandas.DataFrame([*places[:2], (0.0203, 0.005)], columns=["lon", "lat"])
+        rows = hierarchy.table(apart.to_numpy())
+        for missing in (-5, math.inf):
+            weights, metres = hierarchy.table(apart, missing=missing, sums=["metres"]).values()
+            assert weights.to_numpy().tolist() == hierarchy.table(apart, missing=missing).to_numpy().tolist() == np.where(rows < 0, missing, rows).tolist()
+            assert (rows < 0).any() and ((metres == missing) == (rows < 0)).all(axis=None)
         assert hierarchy.directions(frame) == hierarchy.directions(places) == hierarchy.directions(np.array(places))
         assert hierarchy.directions(places[:1] * 2).line == places[:1] * 2
         for wrong, says in (
@@ -418,5 +440,10 @@ class FramesTests(ToolCase):
             hierarchy.tour(places, source="last")
         with pytest.raises(ValueError, match="1 to 500 places"):
             hierarchy.tour(places * 200)
+        assert hierarchy.tour(places[:1], roundtrip=False).order == hierarchy.tour(places[:1]).order == [0]
+        with mock.patch.object(tours, "MAX_PLACES", 2):
+            assert hierarchy.tour(places[:2], roundtrip=False) is not None
+            with pytest.raises(ValueError, match="has 1 to 2 places, and not 3"):
+                hierarchy.tour(places)
         with pytest.raises(ValueError, match="no network"):
             domethyme.Hierarchy(self.folder / "v.rch").directions(places)
