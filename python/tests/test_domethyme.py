@@ -1,4 +1,5 @@
 """Tests of the package domethyme: what goes through arrays, files and the program, beside scipy's plain search."""
+import json
 import re
 import subprocess
 import sys
@@ -74,6 +75,9 @@ class DomethymeTests(ToolCase):
             self.prepared("options", *SQUARE, switch_order_after=0)
         with self.assertRaisesRegex(domethyme.ProgramError, "--stint takes"):
             self.prepared("options", *SQUARE, order="balanced", switch_order_after=2)
+        for words, says in (({"workers": 65}, "--workers"), ({"seed": 1 << 64}, "--seed"), ({"workers": 1, "sequential": True}, "--sequential")):
+            with self.assertRaisesRegex(domethyme.ProgramError, says):
+                self.prepared("options", *SQUARE, **words)
 
     def test_the_orders_are_those_of_the_program(self):
         said = subprocess.run([find_program(), "prepare", "--help"], check=True, stdout=subprocess.PIPE, text=True).stdout
@@ -94,9 +98,10 @@ class DomethymeTests(ToolCase):
         self.assertEqual((new.length(keys[3], keys[2]), new.length(keys[2], keys[1])), (8, 6))
         ranks = [(self.folder / f"{name}.rch").read_bytes()[24:40] for name in ("old", "new")]
         self.assertEqual(ranks[0], ranks[1])
-        again = domethyme.renew(self.folder / "old.gr", self.folder / "new.rch", self.folder / "new.rch", progress=lambda *_: None)
+        told = []
+        again = domethyme.renew(self.folder / "old.gr", self.folder / "new.rch", self.folder / "new.rch", progress=lambda *now: told.append(now))
         self.addCleanup(again.close)
-        self.assertEqual(again.length(3, 2), 13)
+        self.assertEqual((again.length(3, 2), {(what, nodes) for what, _, nodes in told} <= {("renew", 4)}), (13, True))
         domethyme.write_graph(self.folder / "more.gr", *SQUARE, nodes=5)
         with self.assertRaisesRegex(domethyme.WrongHierarchy, r"new.rch: wrong: nodes$") as caught:
             domethyme.renew(self.folder / "more.gr", self.folder / "new.rch", self.folder / "none.rch")
@@ -149,14 +154,16 @@ print(domethyme.Hierarchy("--help").length(0, 2))
             (([0], [1], [4294967296]), "weights have to be from 0"),
             (([0], [-1], [1]), "to_nodes have to be from 0 to 33554431, and are from -1 to -1"),
             (([0], [2**63], [1]), "to_nodes have to be from 0"), (([1 << 25], [1], [1]), "from_nodes have to be from 0"),
+            (([0], [1 << 25], [1]), "to_nodes have to be from 0 to 33554431, and are from 33554432 to"),
             (([0], [1, 2], [1]), "as long as one another"), (([[0]], [[1]], [[1]]), "of one dimension"),
             (([0], [1], ["x"]), "weights have to be integers")
         ]:
             with self.subTest(says=says), self.assertRaisesRegex(ValueError, says):
                 domethyme.write_graph(graph, *wrong)
-        with self.assertRaisesRegex(ValueError, "from 6, by the arcs, to 33554432"):
-            domethyme.write_graph(graph, [0], [5], [1], nodes=5)
-        self.assertEqual(self.contents(), {})
+        for nodes in (5, (1 << 25) + 1):
+            with self.assertRaisesRegex(ValueError, "from 6, by the arcs, to 33554432"):
+                domethyme.write_graph(graph, [0], [5], [1], nodes=nodes)
+        self.assertEqual((self.contents(), domethyme.Graph([0], [5], [1], nodes=1 << 25).nodes), ({}, 1 << 25))
         hierarchy = self.square()
         for wrong, says in [
             ([[0, 1, 2]], "rows of two nodes"), ([0, 1], "rows of two nodes"), ([[0.5, 1]], "integers"),
@@ -253,10 +260,16 @@ print(domethyme.Hierarchy("--help").length(0, 2))
                 self.assertEqual([nodes.tolist() for nodes in part], [nodes.tolist() for nodes in routes][rows])
                 self.assertEqual(part, hierarchy.routes(np.array(pairs)[rows].reshape(-1, 2)))
         self.assertNotEqual(routes, routes[1:])
-        self.assertEqual(routes.arcs.tolist(), [2, -1, 3, 0])
         for none in ([], np.empty((0, 2), int), pd.DataFrame({"from": [], "to": []})):
             found = hierarchy.routes(none)
             self.assertEqual((len(hierarchy.lengths(none)), [*found], len(found.to_frame())), (0, [], 0))
+        self.assertNotEqual(hierarchy.routes([[0, 3]]), hierarchy.routes([[1, 3]]))
+        self.assertEqual((routes.arcs.tolist(), routes[-2].tolist(), repr(routes)), ([2, -1, 3, 0], [3, 0, 1, 2], "<4 routes of 8 nodes>"))
+        for row in (4, -5):
+            with self.assertRaises(IndexError):
+                routes[row]
+        frame = pd.DataFrame(pairs, columns=["from", "to"], index=list("abcd"))
+        self.assertEqual(hierarchy.routes(frame)[1:3].to_frame()["length"].fillna(-1).to_dict(), {"b": -1, "c": 13})
 
     def test_keys_given_as_numbers_arrays_or_mappings(self):
         self.square()
@@ -278,7 +291,7 @@ print(domethyme.Hierarchy("--help").length(0, 2))
                 with self.assertRaisesRegex(domethyme.NoSuchNode, "names no node"):
                     hierarchy.matrix(pd.Series(["a", missing], dtype=object))
         for keys, says in [([1, 1], "key 1 names two nodes"), (range(5), "has 4"), ({"a": 0, "b": 0}, "name one node"),
-                           ({"a": -1}, "is no node"), ({"a": float("inf")}, "is no node"), ({"a": None}, "is no node"),
+                           ({"a": -1}, "is no node"), ({"a": 0.5}, "is no node"), ({"a": float("inf")}, "is no node"), ({"a": None}, "is no node"),
                            ([["a"], ["b"], ["c"], ["d"]], "have to be hashable"), (large[:3], "keys of 3 nodes, and the hierarchy has 4")]:
             with self.subTest(says=says), self.assertRaisesRegex(ValueError, says):
                 domethyme.Hierarchy(self.folder / "square.rch", keys=keys)
@@ -291,12 +304,14 @@ print(domethyme.Hierarchy("--help").length(0, 2))
             self.assertEqual(hierarchy.length("a", "b"), 5)
         with self.assertRaisesRegex(ValueError, "keys of 1 nodes"):
             domethyme.Graph([0], [1], [5], keys=["a"])
+        graph = domethyme.Graph.from_keys("ab", "ca", [1, 2])
+        self.assertEqual(([*graph.keys], repr(graph), repr(graph.keys)), (["a", "b", "c"], "<Graph of 3 nodes and 2 arcs>", "<Keys of 3 nodes>"))
 
     def test_weights_that_are_no_whole_numbers(self):
         for weights in ([1.0, -1.0], [1.0, 5e6], [1.0, float("nan")]):
             with self.assertRaisesRegex(ValueError, "weights times 1000 have to be from 0"):
                 domethyme.Graph.from_keys(["a", "b"], ["b", "c"], weights, scale=1000)
-
+        self.assertEqual(domethyme.Graph.from_keys(["a"], ["b"], [4294967.295], scale=1000).weights.tolist(), [(1 << 32) - 1])
         graph = domethyme.Graph.from_keys(["a", "b"], ["b", "c"], [0.5, 2.0004], scale=1000)
         with graph.prepare(self.folder / "scaled.rch", program=find_program()) as hierarchy:
             lengths = [hierarchy.length("a", "c"), hierarchy.length("c", "a")]
@@ -331,6 +346,9 @@ print(domethyme.Hierarchy("--help").length(0, 2))
             self.assertEqual(hierarchy.lengths(pd.DataFrame({"o": ["a"], "d": ["c"]}).to_numpy()).tolist(), [7])
             of_tool = pd.DataFrame({"from_node": ["b"], "to_node": ["a"], "from_key": ["a"], "to_key": ["c"]})
             self.assertEqual(hierarchy.lengths(of_tool).tolist(), [7])
+        for names in (["to"], ["from", "to"]):  # (levels of the index are columns too)
+            graph = domethyme.Graph.from_frame(frame.set_index(names))
+            self.assertEqual([each.tolist() for each in (graph.from_nodes, graph.to_nodes, graph.weights)], [[0, 1, 0], [1, 2, 2], [3, 4, 9]])
         for name in ("from", "to", "weight"):
             twice = pd.concat([frame[:2], frame[:2][[name]]], axis=1)
             with self.subTest(name), self.assertRaisesRegex(ValueError, f"the frame has several columns {name}"):
@@ -387,18 +405,35 @@ print(domethyme.Hierarchy("--help").length(0, 2))
             (self.folder / "firm.rch.keys").write_text(text, encoding="utf-8")
             with self.subTest(text=text), self.assertRaises(domethyme.FileError):
                 domethyme.Keys.load(path)
+            domethyme.Hierarchy(path, keys=["b", "a", 7]).close()
+        earlier = {name: each for name, each in json.loads(saved).items() if name not in ("sum", "ends")}
+        (self.folder / "firm.rch.keys").write_text(json.dumps(earlier), encoding="utf-8")
+        self.assertEqual([*domethyme.Keys.load(path)], ["a", "b", 7])
         (self.folder / "firm.rch.keys").write_text(saved, encoding="utf-8")
         domethyme.Graph([0, 1], [1, 0], [1, 1]).prepare(path, program=program).close()
         with self.assertRaisesRegex(domethyme.FileError, "has the keys of another file than .*firm.rch"):
             domethyme.Keys.load(path)
         domethyme.Hierarchy(path, keys=["b", "a"]).close()
         self.assertEqual(
-            [domethyme.keys.parse_key(text) for text in ("7", "-7", "0", "007", "-0", "7a", "")],
-            [7, -7, 0, "007", "-0", "7a", None],
+            [domethyme.keys.parse_key(text) for text in ("7", "-7", "0", "007", "-0", "7a", "", "+7", "--7", "-", "\u0663")],
+            [7, -7, 0, "007", "-0", "7a", None, "+7", "--7", "-", "\u0663"],
         )
         for missing in ("nowhere", "firm.rch.keys"):
             with self.assertRaisesRegex(domethyme.FileError, "No such file"):
                 domethyme.Keys.load(self.folder / missing)
+
+    def test_keys_of_a_column(self):
+        """Of one type; several nodes have one where routes begin or end at a junction, and others can't be asked for."""
+        keys = domethyme.Keys.read(self.write("t.csv", "osm,ends\n7,to\n8,\n7,from\n7,no\n,\n9,to\n9,to\n"))
+        self.assertEqual((keys.node(7), keys.end(7), keys.end(7, 2), keys.begins(), keys.node(8), keys.key(4)), (2, 0, 2, {0: 2}, 1, None))
+        with self.assertRaisesRegex(domethyme.NoSuchNode, "9 names several nodes$"):
+            keys.node(9)
+        with self.assertRaisesRegex(domethyme.NoSuchNode, "'8' names no node; there is 8, a number$"):
+            keys.node("8")
+        self.assertEqual([*domethyme.Keys.read(self.write("t.csv", "shop\n7\n\"\"\nx\n"), "shop")], ["7", None, "x"])
+        great = domethyme.Keys([1 << 62, (1 << 63) - 1, 1 << 63])
+        self.assertEqual([(great.of(np.arange(count)).dtype, great.of(np.arange(count)).tolist()) for count in (2, 3)],
+                         [(np.int64, [*great][:2]), (object, [*great])])
 
     def test_keys_of_other_kinds_are_not_saved(self):
         domethyme.Graph.from_keys([("a", 1)], ["b"], [3]).prepare(self.folder / "t.rch", program=find_program()).close()
