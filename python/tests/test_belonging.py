@@ -60,6 +60,24 @@ class HierarchyTests(ToolCase):
         # a parallel arc that is heavier, and a road from a node to itself, change nothing
         domethyme.Hierarchy(path, network=self.network("same", ARCS + "a,b,700\nb,b,3\n")).close()
 
+    def test_a_file_of_version_1(self):
+        """Its links are without their arcs."""
+        right, path = self.network("net"), self.prepared("net")
+        data, begin = path.read_bytes(), 24 + 4 * 3
+        links = [data[at : at + 16] + data[at + 20 : at + 24] for at in range(begin, len(data), 24)]
+        path.write_bytes(b"RCH1" + data[4:begin] + b"".join(links))
+        with domethyme.Hierarchy(path, network=right) as hierarchy:
+            self.assertEqual((hierarchy.length(0, 2), hierarchy.links), (200, len(links)))
+        with self.assertRaisesRegex(domethyme.WrongHierarchy, "from node 2 to node 3 it has 100, where the least arc weighs 99"):
+            domethyme.Hierarchy(path, network=self.network("other", ARCS.replace("b,c,100", "b,c,99")))
+
+    def test_arcs_that_are_too_long_to_be_summed(self):
+        for metres in ("4294967.295", "4294967.296"):
+            network = self.network("far", ARCS.replace("weight\n", "weight,metres\n").replace("00\n", f"00,{metres}\n"))
+            with domethyme.Hierarchy(self.prepared("far"), network=network) as hierarchy:
+                with contextlib.nullcontext() if metres[-1] == "5" else self.assertRaisesRegex(domethyme.NetworkError, "more than 4294967 seconds or metres"):
+                    self.assertEqual(hierarchy.matrix([0], [2], sums=["metres"])["metres"].tolist(), [[2 * float(metres)]])
+
     def test_one_weight_of_many(self):
         """Of a made town with 900 nodes each arc in turn, some of them: a weight that differs by one is found, and so are drawn ones."""
         draw, size = random.Random(1), 30

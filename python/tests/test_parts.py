@@ -19,7 +19,7 @@ from domethyme import atomic_files, batch, belonging, dimacs, hierarchy_file, li
 from domethyme.network import from_tables, net_file, parallel, reach, snapping
 from domethyme_service import tiles
 from domethyme.network import table_files
-from domethyme_tools import table
+from domethyme_tools import on_roads, table
 from domethyme.drawing import roads as draw_roads
 
 BENCH = pathlib.Path(__file__).resolve().parents[2] / "bench"
@@ -149,6 +149,7 @@ CASES = [
     (snapping, "SEGMENTS_PER_BATCH", lambda drawn: snapping.RoadIndex(drawn.network).nearest((0.1, 0.1), 100)),
     (table, "CELLS", table_by_tool),
     (table, "CELLS", lambda drawn: table_by_tool(drawn, "--on-roads")),
+    (on_roads, "SNAP_BATCH", lambda drawn: table_by_tool(drawn, "--on-roads")),
     (table_files, "ROWS_AT_ONCE", tables_of),
     (tiles, "SEGMENTS_PER_CHUNK", tiles_of),
     (draw_roads, "PART", lambda drawn: plain(draw_roads.read_roads(drawn.network, None))),
