@@ -338,8 +338,11 @@ def test_orders_by_enumeration(data: Any) -> None:
     lengths = np.array(data.draw(st.lists(cell, min_size=count**2, max_size=count**2)), np.int64).reshape(count, count)
     np.fill_diagonal(lengths, 0)
     weights = [[None if each == FAR else each for each in row] for row in lengths.tolist()]
-    for setting in SETTINGS if count < 12 else [(True, "any", "any")]:
-        order = tours.best_order(lengths, *setting)
+    with mock.patch.object(tours, "Tour", None):  # (which isn't for so few)
+        orders = [tours.best_order(lengths, *setting) for setting in SETTINGS]
+    for setting, order in zip(SETTINGS, orders):
+        if count == 12 and setting != (True, "any", "any"):
+            continue
         best = least_tour(weights, *setting) if count < 12 else least_round_trip(weights)
         assert (order is None) == (best is None)
         if order is not None:
@@ -386,6 +389,25 @@ def test_radius_and_ferries(tmp_path: pathlib.Path) -> None:
                 with pytest.raises(domethyme.NoSuchNode):
                     ask(places, **words)
             assert ask(places, radius=1300, snapping="any") is not None
+
+
+def test_places_beyond_the_search() -> None:
+    """The tour of more than twelve is nearly the best one within its bounds, and the same each time; and no longer for more kicks."""
+    for count, setting in itertools.product((13, 14), SETTINGS):
+        lengths = np.random.default_rng(count).integers(1, 1000, (count, count))
+        order = tours.best_order(lengths, *setting)
+        with mock.patch.object(tours, "MAX_EXACT", count):
+            best = tours.best_order(lengths, *setting)
+        assert order and best and sorted(order) == list(range(count))
+        assert (setting[1] == "any" or order[0] == 0) and (setting[2] == "any" or order[-1] == count - 1)
+        assert tours.tour_length(lengths, order, setting[0]) <= 1.02 * tours.tour_length(lengths, best, setting[0])
+    lengths, found = np.random.default_rng(1).integers(1, 1000, (90, 90)), list[int]()
+    for kicks in range(0, 150, 25):
+        with mock.patch.object(tours, "KICKS", kicks):
+            orders = [tours.least_tour(lengths) for _ in range(2)]
+        assert orders[0] == orders[1] and sorted(orders[0]) == list(range(90))
+        found.append(tours.tour_length(lengths, orders[0], True))
+    assert found == sorted(found, reverse=True) and found[-1] < found[0]
 
 
 class FramesTests(ToolCase):
