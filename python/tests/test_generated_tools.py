@@ -88,7 +88,7 @@ def test_trips_and_tables(data: Any) -> None:
     trips += [(made.roads.nodes[node].place,) * 2 for node in split[:2]]
     with tempfile.TemporaryDirectory() as folder:
         path = pathlib.Path(folder)
-        write_network(made, path / "net")
+        write_network(made, path / "net", "--attribution", "© the town")
         labels = [data.draw(st.sampled_from(LABELS)) for _ in trips]
         write_rows(path / "trips.csv", ["label", *SOURCES], ([label, *a, *b] for label, (a, b) in zip(labels, trips)))
         for name, end in (("sources", 0), ("targets", 1)):
@@ -131,28 +131,35 @@ def check_between_nodes(made: Drawn, path: pathlib.Path, trips: list[tuple[Point
         return
     (path / "answers").write_text(routecli("route", path / "net.rch", path / "pairs"))
     run_tool("to_geojson", path / "net", path / "answers", "--trips", path / "snapped.csv", "-o", path / "routes")
-    features = json.loads((path / "routes").read_text())["features"]
-    for pair, feature in zip(pairs, features, strict=True):
+    routes = json.loads((path / "routes").read_text())
+    assert routes["attribution"] == "© the town"
+    for pair, feature in zip(pairs, routes["features"], strict=True):
         length = network.lengths({pair[0]: 0}).get(pair[1])
         keys = [network.nodes[node].key if has_keys else None for node in pair]
         assert [feature["properties"].get(name) for name in ("from_key", "to_key")] == keys
         assert feature["properties"]["length"] == length and (feature["geometry"] is None) == (length is None)
         assert (feature["properties"]["seconds"] is None) == (length is None or not network.has_seconds)
         assert length is None or feature["properties"]["arcs"] == network.fewest_arcs(*pair)
+        for name in ("seconds", "metres") if length is not None else ():
+            steps, whole = [step[name] for step in feature["properties"]["steps"]], feature["properties"][name]
+            assert steps == [None] * len(steps) if whole is None else abs(sum(steps) - whole) < 0.006 * (1 + len(steps))
         if length is not None:  # (an answer that there is no path is refused)
             (path / "no_path").write_text(f"n {pair[0] + 1} {pair[1] + 1}\n")
             with pytest.raises(ToolError, match="says that no path leads from"):
                 run_tool("to_geojson", path / "net", path / "no_path", "-o", path / "routes")
     if skipped:
         return
-    run_tool("table", path / "net", path / "net.rch", path / "sources.csv", path / "targets.csv", "-o", path / "t.npy")
-    table = np.load(path / "t.npy")
+    words = path / "sources.csv", path / "targets.csv", "-o", path / "t.npy", "--metres", path / "m.npy"
+    run_tool("table", path / "net", path / "net.rch", *words)
+    table, metres = np.load(path / "t.npy"), np.load(path / "m.npy")
+    assert (np.isnan(metres) == (table < 0)).all()
     for (row, ((starts, _), _)), (column, (_, (ends, _))) in itertools.product(enumerate(near), enumerate(near)):
         cells = {
             0 if one_junction(network, start, end) else network.lengths({start: 0}).get(end, -1)
             for start in starts for end in ends
         }
         assert table[row, column] in cells
+        assert metres[row, column] == 0 or not all(one_junction(network, start, end) for start in starts for end in ends)
 
 
 def check_on_roads(roads: Network, path: pathlib.Path, trips: list[tuple[Point, Point]]) -> None:
@@ -168,8 +175,9 @@ def check_on_roads(roads: Network, path: pathlib.Path, trips: list[tuple[Point, 
     run_tool(
         "to_geojson", path / "net", path / "replies", "--trips", path / "trips.csv", "--on-roads", "-o", path / "on_roads"
     )
-    features = json.loads((path / "on_roads").read_text())["features"]
-    for (start, end), feature in zip(points, features, strict=True):
+    routes = json.loads((path / "on_roads").read_text())
+    assert routes["attribution"] == "© the town"
+    for (start, end), feature in zip(points, routes["features"], strict=True):
         assert start and end and is_feature(roads, feature, start, end), (feature, start, end)
     run_tool(
         "table", path / "net", path / "net.rch", path / "sources.csv", path / "targets.csv", "--on-roads", "-o", path / "on.csv"

@@ -143,6 +143,7 @@ class VillageTests(ToolCase):
         found = json.loads(self.run_tool("match", "v", "v.rch", "-", "--ignore-gaps", "--deviation", "4", given=(self.folder / "trace.csv").read_text()).stdout)
         self.assertEqual([feature["properties"]["rows"] for feature in found["features"]], [[2, 3, 4, 5, 6]])
         for text, says in [("lon,lat\n0,0\n", "two places or more"), ("lon,lat,seconds\n0,0,1\n0,0,x\n", "row 3: seconds 'x' is not a number"),
+                           ("lon,lat,seconds\n0,0,1\n0,0,\n", "row 3: seconds '' is not a number"),
                            ("lon,lat,seconds\n0,0,2\n0,0,1\n", "don't fall"), ("lon,lat,deviation\n0,0,\n0,0,0\n", "above 0")]:
             self.write("bad.csv", text)
             self.assert_refused("match", "v", "v.rch", "bad.csv", says=says)

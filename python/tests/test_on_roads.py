@@ -1,5 +1,6 @@
 """Tests of what nearest and to_geojson refuse of places on roads."""
 import contextlib
+import itertools
 import unittest.mock
 
 import pytest
@@ -50,14 +51,15 @@ class OnRoadsTests(ServiceCase):
         self.write("trips.csv", TRIPS)
         says = "trips.csv, row 2: from_lon 0.0003, from_lat 1e-05 is 1 m from the nearest road, and --radius is 0.5 m"
         self.assert_refused("nearest", "v", "trips.csv", "--on-roads", "--radius", "0.5", says=says)
-        for word in ("--matrix", "--skip-far"):
-            self.run_tool("nearest", "v", "trips.csv", "--on-roads", word, status=2)
-        self.run_tool("to_geojson", "v", "replies", "--on-roads", status=2)
-        words = ("nearest", self.folder / "v", self.write("one.csv", "from_lon,from_lat,to_lon,to_lat\n0,0,0.0077,0\n"), "--on-roads")
-        for most in (2, 1):  # (from one node to two)
+        for words in (["--matrix"], ["--skip-far"], ["--snapped", "s"]):
+            self.run_tool("nearest", "v", "trips.csv", "--on-roads", *words, status=2)
+        for words in ([], ["--trips", "trips.csv", "--format", "csv"]):
+            self.run_tool("to_geojson", "v", "replies", "--on-roads", *words, status=2)
+        for most, trip in itertools.product((2, 1), ("0,0,0.0077,0", "0.0077,0,0,0")):  # (from one node to two, and back)
+            one = self.write("one.csv", f"from_lon,from_lat,to_lon,to_lat\n{trip}\n")
             with unittest.mock.patch.object(on_roads, "MAX_SEEDS", most):
                 with self.assertRaisesRegex(ToolError, "more than 1 nodes") if most < 2 else contextlib.nullcontext():
-                    run_tool(*words)
+                    run_tool("nearest", self.folder / "v", one, "--on-roads")
         lines = self.run_tool("nearest", "v", "trips.csv", "--on-roads").stdout
         replies = self.run_program([find_program(), "serve", "v.rch"], given=lines).stdout.splitlines(keepends=True)
         self.assertEqual((lines.count("\n"), len(replies)), (5, 6))

@@ -45,6 +45,12 @@ class TableTests(ToolCase):
         self.table("-o", "table.npy")
         found = np.load(self.folder / "table.npy")
         self.assertEqual((found.dtype, found.tolist()), (np.int64, [[200, 300], [100, 200], [-1, -1]]))
+        self.assertEqual(self.table("--name", "key", places=["sources.csv"] * 2).splitlines()[0], "from,north,'=south,away")
+        self.assertEqual(self.run_tool("table", "net", "net.rch", "-", "targets.csv", given=SOURCES).stdout, wanted)
+        self.write("at.csv", "lon,lat\n0,0\n0.001,0\n")
+        self.write("at.co", "p aux sp co 2\nv 1 0 0\nv 2 1000 0\n")
+        for name, words in (("at.csv", []), ("at.csv", ["--on-roads"]), ("at.co", ["--name", "place"])):
+            self.assertEqual(self.table("--radius", "0", *words, places=[name] * 2), "from,1,2\n1,0,100\n2,200,0\n")
         self.write("none.csv", "lon,lat\n")
         for sources, targets, text, shape in [("none.csv", "targets.csv", "from,1,2\n", (0, 2)), ("none.csv", "none.csv", "from\n", (0, 0)),
                                               ("sources.csv", "none.csv", "from\n1\n2\n3\n", (3, 0))]:

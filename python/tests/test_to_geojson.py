@@ -37,6 +37,7 @@ ANSWERS_REFUSED = [
     ("r 1 3 301 2 1 2 3", "has the length 301, and its arcs' weights sum to 300"), ("r 1 3 400 2 1 2 3", "has the length 400"),
     ("r 2 2 1 0 2", "has the length 1, and its arcs' weights sum to 0"), ("n 4 0", "has node 0"),
     ("r 1 3 300 1 1 3", "leads from node 1 to node 3, where the network has no arc"),
+    ("r 1 4 300 2 1 2 4", "leads from node 2 to node 4, where the network has no arc"),
     ("n 1 3", "says that no path leads from node 1 to node 3, and one does: is it of another network?"),
     ("n 4 4", "says that no path leads from node 4 to node 4"), ("r 5 5 0 0 5", "has node 5, and the network has 4 nodes"),
     *((line, "") for line in ["", "n 1", "r 1 2", "x 1 2", "r 1 2 100 1 1 3", "r 1 2 100 2 1 2", "r 1 2 -1 1 1 2"]),
