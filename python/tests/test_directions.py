@@ -332,32 +332,17 @@ def least_tour(weights: Any, roundtrip: bool, source: str, destination: str) -> 
 @drawn(60)
 @given(st.data())
 def test_orders_by_enumeration(data: Any) -> None:
-    """Up to seven places by all orders, and twelve by another search of sets."""
-    count = data.draw(st.sampled_from([1, 2, 3, 5, 7, 12]))
+    """Up to seven places by all orders."""
+    count = data.draw(st.sampled_from([1, 2, 3, 5, 7]))
     cell = st.one_of(st.integers(0, 40), st.integers(0, 40), st.just(FAR))
     lengths = np.array(data.draw(st.lists(cell, min_size=count**2, max_size=count**2)), np.int64).reshape(count, count)
     np.fill_diagonal(lengths, 0)
     weights = [[None if each == FAR else each for each in row] for row in lengths.tolist()]
-    with mock.patch.object(tours, "Tour", None):  # (which isn't for so few)
-        orders = [tours.best_order(lengths, *setting) for setting in SETTINGS]
-    for setting, order in zip(SETTINGS, orders):
-        if count == 12 and setting != (True, "any", "any"):
-            continue
-        best = least_tour(weights, *setting) if count < 12 else least_round_trip(weights)
+    for setting in SETTINGS:
+        order, best = tours.best_order(lengths, *setting), least_tour(weights, *setting)
         assert (order is None) == (best is None)
         if order is not None:
             assert sorted(order) == list(range(count)) and tours.tour_length(lengths, order, setting[0]) == best
-
-
-def least_round_trip(weights: Any) -> int | None:
-    @functools.cache
-    def rest(here: int, left: frozenset[int]) -> float:
-        if not left:
-            return math.inf if weights[here][0] is None else weights[here][0]
-        return min(rest(place, left - {place}) + (math.inf if weights[here][place] is None else weights[here][place]) for place in left)
-
-    found = rest(0, frozenset(range(1, len(weights))))
-    return None if found == math.inf else int(found)
 
 
 @pytest.mark.parametrize("against", [1, 3])
@@ -393,14 +378,15 @@ def test_radius_and_ferries(tmp_path: pathlib.Path) -> None:
 
 def test_places_beyond_the_search() -> None:
     """The tour of more than twelve is nearly the best one within its bounds, and the same each time; and no longer for more kicks."""
-    for count, setting in itertools.product((13, 14), SETTINGS):
-        lengths = np.random.default_rng(count).integers(1, 1000, (count, count))
-        order = tours.best_order(lengths, *setting)
-        with mock.patch.object(tours, "MAX_EXACT", count):
-            best = tours.best_order(lengths, *setting)
-        assert order and best and sorted(order) == list(range(count))
-        assert (setting[1] == "any" or order[0] == 0) and (setting[2] == "any" or order[-1] == count - 1)
-        assert tours.tour_length(lengths, order, setting[0]) <= 1.02 * tours.tour_length(lengths, best, setting[0])
+    for count, setting in itertools.product((12, 14), SETTINGS):
+        lengths, orders = np.random.default_rng(count).integers(1, 1000, (count, count)), []
+        for most, tour in ((tours.MAX_EXACT if count == 12 else count, None), (1, tours.Tour)):
+            with mock.patch.multiple(tours, MAX_EXACT=most, Tour=tour):
+                orders.append(tours.best_order(lengths, *setting))
+            assert sorted(orders[-1]) == list(range(count))
+            assert (setting[1] == "any" or orders[-1][0] == 0) and (setting[2] == "any" or orders[-1][-1] == count - 1)
+        best, found = (tours.tour_length(lengths, order, setting[0]) for order in orders)
+        assert best <= found <= 1.02 * best
     lengths, found = np.random.default_rng(1).integers(1, 1000, (90, 90)), list[int]()
     for kicks in range(0, 150, 25):
         with mock.patch.object(tours, "KICKS", kicks):

@@ -95,15 +95,6 @@ def test_what_cannot_be_reached(row, starts, limit, says):
     assert isinstance(caught.value, domethyme.NoSuchNode) == (starts == [6])
 
 
-@pytest.mark.parametrize("starts, limit, wanted", [
-    ([3], None, [2000, 1000, 0, 0, 0, -1]), ([3], 999, [-1, -1, 0, 0, 0, -1]), ({0: 7}, None, [7, 1007, -1, -1, -1, -1]),
-    ({2: 500, 4: 0}, None, [2500, 1500, 500, 500, 0, -1]),
-])
-def test_towards(row, starts, limit, wanted):
-    """By hand."""
-    assert row.reach(starts, limit, towards=True).tolist() == wanted
-
-
 def give_another_inode(path):
     shutil.copy2(path, f"{path}.new")
     os.replace(f"{path}.new", path)
