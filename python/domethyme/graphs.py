@@ -7,6 +7,7 @@ import subprocess
 import tempfile
 import warnings
 from collections.abc import Callable, Hashable, Iterable, Iterator, Mapping, Sequence
+from numbers import Real
 from typing import TYPE_CHECKING, Any, Literal
 
 from . import dimacs, library
@@ -14,7 +15,7 @@ from .atomic_files import atomic_write
 from .deprecated import old_word, warn_renamed
 from .errors import GraphError, NotProved, ReadWriteError, WrongHierarchy, error_from_exit, os_reason
 from .extras import need
-from .hierarchy import Hierarchy
+from .hierarchy import Hierarchy, is_whole
 from .keys import Keys, as_list, is_missing, to_python_scalar
 from .limits import MAX_LINES, MAX_NODES, MAX_WEIGHT
 from .program import StrPath, find_program, run_explaining, run_watched
@@ -56,8 +57,8 @@ class Graph:
         if len(self.weights) > MAX_LINES:
             raise ValueError(f"a graph has at most {MAX_LINES} arcs")
         least = int(max(self.from_nodes.max(initial=-1), self.to_nodes.max(initial=-1))) + 1
-        if nodes is not None and not least <= nodes <= MAX_NODES:
-            raise ValueError(f"the number of nodes has to be from {least}, by the arcs, to {MAX_NODES}")
+        if nodes is not None and not (is_whole(nodes) and least <= nodes <= MAX_NODES):
+            raise ValueError(f"the number of nodes has to be an integer from {least}, by the arcs, to {MAX_NODES}")
         self.nodes = least if nodes is None else int(nodes)
         self.keys = keys if keys is None or isinstance(keys, Keys) else Keys(keys, self.nodes)
         if nodes is None and len(self.weights) and min(self.from_nodes.min(), self.to_nodes.min()) > 0:
@@ -72,14 +73,17 @@ class Graph:
                 Without it they have to be integers. Lengths are in the scaled unit; `unscaled` divides them. A warning
                 (UserWarning) says how many positive weights become 0.
 
-        Raises ValueError where an end has no key, the three aren't as long as one another, `scale` isn't above 0, or a weight
-        isn't from 0 to 4294967295.
+        Raises ValueError where an end has no key, or one that can't be hashed, the three aren't as long as one another, `scale`
+        isn't above 0, or a weight isn't from 0 to 4294967295.
         """
         need("numpy")
         import numpy as np
 
-        starts, ends = ([to_python_scalar(key) for key in as_list(side)] for side in (sources, targets))
-        numbers = {key: node for node, key in enumerate(dict.fromkeys([*starts, *ends]))}
+        try:
+            starts, ends = ([to_python_scalar(key) for key in as_list(side)] for side in (sources, targets))
+            numbers = {key: node for node, key in enumerate(dict.fromkeys([*starts, *ends]))}
+        except TypeError as error:
+            raise ValueError(f"keys have to be lists of hashable ones: {error}") from None
         if any(map(is_missing, numbers)):
             raise ValueError("an arc has no key at an end")
         from_nodes, to_nodes = (np.array([numbers[key] for key in side], dtype=np.int64) for side in (starts, ends))
@@ -173,8 +177,8 @@ def scaled(weights: "ArrayLike", scale: float) -> "NDArray[np.int64]":
 
 
 def need_scale(scale: float) -> None:
-    if not 0 < scale < math.inf:
-        raise ValueError(f"the scale has to be above 0, and is {scale:g}")
+    if not isinstance(scale, Real) or not 0 < scale < math.inf:
+        raise ValueError(f"the scale has to be above 0, and is {scale!r}")
 
 
 def unscaled(lengths: Any, scale: float = 1) -> Any:

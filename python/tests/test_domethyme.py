@@ -5,6 +5,7 @@ import subprocess
 import sys
 import types
 import typing
+from unittest import mock
 
 import numpy as np
 import pandas as pd
@@ -14,7 +15,7 @@ from hypothesis import strategies as st
 from tool_case import PYTHON, ROOT, ToolCase
 
 import domethyme
-from domethyme import errors, find_program
+from domethyme import errors, find_program, graphs
 
 # Four nodes: two ways from 0 to 2, of 3 + 4 = 7 and of 9; back from 2 to 0 by 5; node 3 leads to 0 by 6, and nothing to it.
 SQUARE = ([0, 1, 0, 2, 3], [1, 2, 2, 0, 0], [3, 4, 9, 5, 6])
@@ -75,9 +76,14 @@ class DomethymeTests(ToolCase):
             self.prepared("options", *SQUARE, switch_order_after=0)
         with self.assertRaisesRegex(domethyme.ProgramError, "--stint takes"):
             self.prepared("options", *SQUARE, order="balanced", switch_order_after=2)
-        for words, says in (({"workers": 65}, "--workers"), ({"seed": 1 << 64}, "--seed"), ({"workers": 1, "sequential": True}, "--sequential")):
-            with self.assertRaisesRegex(domethyme.ProgramError, says):
-                self.prepared("options", *SQUARE, **words)
+        for options, words in [
+            ({}, "balanced"), ({"switch_order_after": 2}, "depth --stint 2"),
+            ({"workers": 0, "seed": 0}, "balanced --workers 0 --seed 0"),
+            ({"order": "edges", "seed": 5, "sequential": True}, "edges --seed 5 --sequential"),
+        ]:
+            with mock.patch.object(graphs, "run_making", side_effect=KeyError) as run, self.assertRaises(KeyError):
+                domethyme.prepare(self.folder / "options.gr", "a.rch", **options)
+            self.assertEqual(run.call_args.args[1:3], (f"prepare --order {words}".split(), [f"{self.folder}/options.gr", "a.rch"]))
 
     def test_the_orders_are_those_of_the_program(self):
         said = subprocess.run([find_program(), "prepare", "--help"], check=True, stdout=subprocess.PIPE, text=True).stdout
@@ -98,8 +104,8 @@ class DomethymeTests(ToolCase):
         self.assertEqual((new.length(keys[3], keys[2]), new.length(keys[2], keys[1])), (8, 6))
         ranks = [(self.folder / f"{name}.rch").read_bytes()[24:40] for name in ("old", "new")]
         self.assertEqual(ranks[0], ranks[1])
-        told = []
-        again = domethyme.renew(self.folder / "old.gr", self.folder / "new.rch", self.folder / "new.rch", progress=lambda *now: told.append(now))
+        told, new = [], self.folder / "new.rch"
+        again = domethyme.renew(self.folder / "old.gr", new, new, progress=lambda *now: told.append(now))
         self.addCleanup(again.close)
         self.assertEqual((again.length(3, 2), {(what, nodes) for what, _, nodes in told} <= {("renew", 4)}), (13, True))
         domethyme.write_graph(self.folder / "more.gr", *SQUARE, nodes=5)
@@ -160,8 +166,8 @@ print(domethyme.Hierarchy("--help").length(0, 2))
         ]:
             with self.subTest(says=says), self.assertRaisesRegex(ValueError, says):
                 domethyme.write_graph(graph, *wrong)
-        for nodes in (5, (1 << 25) + 1):
-            with self.assertRaisesRegex(ValueError, "from 6, by the arcs, to 33554432"):
+        for nodes in (5, (1 << 25) + 1, 6.5, "7"):
+            with self.assertRaisesRegex(ValueError, "an integer from 6, by the arcs, to 33554432"):
                 domethyme.write_graph(graph, [0], [5], [1], nodes=nodes)
         self.assertEqual((self.contents(), domethyme.Graph([0], [5], [1], nodes=1 << 25).nodes), ({}, 1 << 25))
         hierarchy = self.square()
@@ -218,8 +224,9 @@ print(domethyme.Hierarchy("--help").length(0, 2))
     def test_ends_that_cannot_be_meant(self):
         hierarchy = self.square()
         for node in (4, -1, np.uint64(1 << 63)):
-            with self.assertRaisesRegex(domethyme.NoSuchNode, "nodes 0 to 3"):
+            with self.assertRaisesRegex(domethyme.NoSuchNode, "nodes 0 to 3") as caught:
                 hierarchy.length(0, node)
+            self.assertEqual(caught.exception.key, node)
         for node in ("0", 0.0, None, True, np.True_, np.float64(0), np.array([0]), np.array(0.0), np.array([0, 1]), np.zeros((1, 2), int)):
             with self.assertRaisesRegex(ValueError, "is no node"):
                 hierarchy.route(node, 0)
@@ -240,7 +247,7 @@ print(domethyme.Hierarchy("--help").length(0, 2))
     def test_unsigned_numbers_beside_others(self):
         """numpy makes floats of such a list, and of two such columns."""
         hierarchy, mixed = self.square(), [np.uint64(0), 2, np.int8(1)]
-        self.assertEqual(hierarchy.matrix(mixed).tolist(), hierarchy.matrix([0, 2, 1]).tolist())
+        self.assertEqual(hierarchy.matrix(mixed).tolist(), hierarchy.matrix(iter([0, 2, 1])).tolist())
         self.assertEqual(hierarchy.matrix(np.array(mixed, object)).tolist(), hierarchy.matrix([0, 2, 1]).tolist())
         frame = pd.DataFrame({"from": np.array([0, 1], np.uint64), "to": [2, 1]})
         self.assertEqual(hierarchy.lengths(frame).tolist(), hierarchy.lengths([[0, 2], [1, 1]]).tolist())
@@ -264,7 +271,8 @@ print(domethyme.Hierarchy("--help").length(0, 2))
             found = hierarchy.routes(none)
             self.assertEqual((len(hierarchy.lengths(none)), [*found], len(found.to_frame())), (0, [], 0))
         self.assertNotEqual(hierarchy.routes([[0, 3]]), hierarchy.routes([[1, 3]]))
-        self.assertEqual((routes.arcs.tolist(), routes[-2].tolist(), repr(routes)), ([2, -1, 3, 0], [3, 0, 1, 2], "<4 routes of 8 nodes>"))
+        self.assertEqual((routes.arcs.tolist(), routes[-2].tolist()), ([2, -1, 3, 0], [3, 0, 1, 2]))
+        self.assertEqual(repr(routes), "<4 routes of 8 nodes>")
         for row in (4, -5):
             with self.assertRaises(IndexError):
                 routes[row]
@@ -291,7 +299,8 @@ print(domethyme.Hierarchy("--help").length(0, 2))
                 with self.assertRaisesRegex(domethyme.NoSuchNode, "names no node"):
                     hierarchy.matrix(pd.Series(["a", missing], dtype=object))
         for keys, says in [([1, 1], "key 1 names two nodes"), (range(5), "has 4"), ({"a": 0, "b": 0}, "name one node"),
-                           ({"a": -1}, "is no node"), ({"a": 0.5}, "is no node"), ({"a": float("inf")}, "is no node"), ({"a": None}, "is no node"),
+                           ({"a": 0.5}, "is no node"),
+                           ({"a": -1}, "is no node"), ({"a": float("inf")}, "is no node"), ({"a": None}, "is no node"),
                            ([["a"], ["b"], ["c"], ["d"]], "have to be hashable"), (large[:3], "keys of 3 nodes, and the hierarchy has 4")]:
             with self.subTest(says=says), self.assertRaisesRegex(ValueError, says):
                 domethyme.Hierarchy(self.folder / "square.rch", keys=keys)
@@ -305,7 +314,8 @@ print(domethyme.Hierarchy("--help").length(0, 2))
         with self.assertRaisesRegex(ValueError, "keys of 1 nodes"):
             domethyme.Graph([0], [1], [5], keys=["a"])
         graph = domethyme.Graph.from_keys("ab", "ca", [1, 2])
-        self.assertEqual(([*graph.keys], repr(graph), repr(graph.keys)), (["a", "b", "c"], "<Graph of 3 nodes and 2 arcs>", "<Keys of 3 nodes>"))
+        self.assertEqual([*graph.keys], ["a", "b", "c"])
+        self.assertEqual([*map(repr, (graph, graph.keys))], ["<Graph of 3 nodes and 2 arcs>", "<Keys of 3 nodes>"])
 
     def test_weights_that_are_no_whole_numbers(self):
         for weights in ([1.0, -1.0], [1.0, 5e6], [1.0, float("nan")]):
@@ -315,8 +325,8 @@ print(domethyme.Hierarchy("--help").length(0, 2))
         graph = domethyme.Graph.from_keys(["a", "b"], ["b", "c"], [0.5, 2.0004], scale=1000)
         with graph.prepare(self.folder / "scaled.rch", program=find_program()) as hierarchy:
             lengths = [hierarchy.length("a", "c"), hierarchy.length("c", "a")]
-            self.assertEqual([domethyme.unscaled(length, 1000) for length in lengths], [2.5, float("inf")])
-            self.assertEqual(domethyme.unscaled(pd.NA, 1000), float("inf"))
+            values = [2.5, *[float("inf")] * 3, 0]
+            self.assertEqual([domethyme.unscaled(length, 1000) for length in (*lengths, -1, pd.NA, 0)], values)
             self.assertEqual(domethyme.unscaled(hierarchy.matrix(np.array(["a", "c"])), 1000).tolist(), [[0, 2.5], [float("inf"), 0]])
             series = domethyme.unscaled(hierarchy.lengths(pd.DataFrame({"from": ["a", "c"], "to": ["b", "b"]}, index=[4, 5])))
             self.assertEqual(series.to_dict(), {4: 500, 5: float("inf")})
@@ -325,6 +335,9 @@ print(domethyme.Hierarchy("--help").length(0, 2))
         for missing in (None, float("nan"), pd.NaT, pd.NA, np.float64("nan")):
             with self.subTest(missing=missing), self.assertRaisesRegex(ValueError, "an arc has no key at an end"):
                 domethyme.Graph.from_keys(["a", missing], ["b", "c"], [1, 2])
+        for sources in ([["a"]], 5, None):
+            with self.assertRaisesRegex(ValueError, "lists of hashable ones"):
+                domethyme.Graph.from_keys(sources, ["b"], [1])
         for column in (pd.Series([1, None]), pd.Series([1, None], dtype="Int64"), pd.Series(["a", None], dtype="category")):
             frame = pd.DataFrame({"from": column, "to": column[::-1].to_numpy(), "weight": 1})
             with self.subTest(dtype=column.dtype), self.assertRaisesRegex(ValueError, "an arc has no key at an end"):
@@ -348,7 +361,8 @@ print(domethyme.Hierarchy("--help").length(0, 2))
             self.assertEqual(hierarchy.lengths(of_tool).tolist(), [7])
         for names in (["to"], ["from", "to"]):  # (levels of the index are columns too)
             graph = domethyme.Graph.from_frame(frame.set_index(names))
-            self.assertEqual([each.tolist() for each in (graph.from_nodes, graph.to_nodes, graph.weights)], [[0, 1, 0], [1, 2, 2], [3, 4, 9]])
+            arcs = [each.tolist() for each in (graph.from_nodes, graph.to_nodes, graph.weights)]
+            self.assertEqual(arcs, [[0, 1, 0], [1, 2, 2], [3, 4, 9]])
         for name in ("from", "to", "weight"):
             twice = pd.concat([frame[:2], frame[:2][[name]]], axis=1)
             with self.subTest(name), self.assertRaisesRegex(ValueError, f"the frame has several columns {name}"):
@@ -377,7 +391,7 @@ print(domethyme.Hierarchy("--help").length(0, 2))
                 domethyme.Graph.from_frame(frame, scale=scale)
 
     def test_scales_that_lose_weights(self):
-        for scale in (0, -1, float("inf"), float("nan")):
+        for scale in (0, -1, float("inf"), float("nan"), "7"):
             with self.assertRaisesRegex(ValueError, "the scale has to be above 0"):
                 domethyme.Graph.from_keys(["a"], ["b"], [0.5], scale=scale)
             with self.assertRaisesRegex(ValueError, "scale has to be above 0"):
@@ -425,11 +439,13 @@ print(domethyme.Hierarchy("--help").length(0, 2))
     def test_keys_of_a_column(self):
         """Of one type; several nodes have one where routes begin or end at a junction, and others can't be asked for."""
         keys = domethyme.Keys.read(self.write("t.csv", "osm,ends\n7,to\n8,\n7,from\n7,no\n,\n9,to\n9,to\n"))
-        self.assertEqual((keys.node(7), keys.end(7), keys.end(7, 2), keys.begins(), keys.node(8), keys.key(4)), (2, 0, 2, {0: 2}, 1, None))
+        self.assertEqual((keys.node(7), keys.end(7), keys.end(7, 2), keys.node(8)), (2, 0, 2, 1))
+        self.assertEqual((keys.begins(), keys.key(4)), ({0: 2}, None))
         with self.assertRaisesRegex(domethyme.NoSuchNode, "9 names several nodes$"):
             keys.node(9)
-        with self.assertRaisesRegex(domethyme.NoSuchNode, "'8' names no node; there is 8, a number$"):
+        with self.assertRaisesRegex(domethyme.NoSuchNode, "'8' names no node; there is 8, a number$") as caught:
             keys.node("8")
+        self.assertEqual(caught.exception.key, "8")
         self.assertEqual([*domethyme.Keys.read(self.write("t.csv", "shop\n7\n\"\"\nx\n"), "shop")], ["7", None, "x"])
         great = domethyme.Keys([1 << 62, (1 << 63) - 1, 1 << 63])
         self.assertEqual([(great.of(np.arange(count)).dtype, great.of(np.arange(count)).tolist()) for count in (2, 3)],
