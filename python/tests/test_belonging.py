@@ -72,11 +72,11 @@ class HierarchyTests(ToolCase):
             domethyme.Hierarchy(path, network=self.network("other", ARCS.replace("b,c,100", "b,c,99")))
 
     def test_arcs_that_are_too_long_to_be_summed(self):
-        for metres in ("4294967.295", "4294967.296"):
+        refused = self.assertRaisesRegex(domethyme.NetworkError, "more than 4294967 seconds or metres")
+        for metres, told in (("4294967.295", contextlib.nullcontext()), ("4294967.296", refused)):
             network = self.network("far", ARCS.replace("weight\n", "weight,metres\n").replace("00\n", f"00,{metres}\n"))
-            with domethyme.Hierarchy(self.prepared("far"), network=network) as hierarchy:
-                with contextlib.nullcontext() if metres[-1] == "5" else self.assertRaisesRegex(domethyme.NetworkError, "more than 4294967 seconds or metres"):
-                    self.assertEqual(hierarchy.matrix([0], [2], sums=["metres"])["metres"].tolist(), [[2 * float(metres)]])
+            with domethyme.Hierarchy(self.prepared("far"), network=network) as hierarchy, told:
+                self.assertEqual(hierarchy.matrix([0], [2], sums=["metres"])["metres"].tolist(), [[2 * float(metres)]])
 
     def test_one_weight_of_many(self):
         """Of a made town with 900 nodes each arc in turn, some of them: a weight that differs by one is found, and so are drawn ones."""

@@ -364,7 +364,8 @@ def test_long_tours(against: int) -> None:
 def test_radius_and_ferries(tmp_path: pathlib.Path) -> None:
     """All calls between places take a radius, and places on ferries where that is said."""
     line = (0.0, 0.0), (0.01, 0.0)
-    roads = Network([Node(*place) for place in line], [Arc(*ends, 7, 0.0, 9.0, line[::step], 1, highway="ferry") for ends, step in (((0, 1), 1), ((1, 0), -1))])
+    arcs = [Arc(start, 1 - start, 7, 0.0, 9.0, line[:: 1 - 2 * start], 1, highway="ferry") for start in (0, 1)]
+    roads = Network([Node(*place) for place in line], arcs)
     write_network(Drawn(roads, roads, False), tmp_path / "net")
     with domethyme.Hierarchy(tmp_path / "net.rch", network=tmp_path / "net") as hierarchy:
         places = [(0.002, 0.011), (0.009, 0.0)]
@@ -377,7 +378,7 @@ def test_radius_and_ferries(tmp_path: pathlib.Path) -> None:
 
 
 def test_places_beyond_the_search() -> None:
-    """The tour of more than twelve is nearly the best one within its bounds, and the same each time; and no longer for more kicks."""
+    """The tour of more than twelve is nearly the best one within its bounds, the same each time, and no longer for more kicks."""
     for count, setting in itertools.product((12, 14), SETTINGS):
         lengths, orders = np.random.default_rng(count).integers(1, 1000, (count, count)), []
         for most, tour in ((tours.MAX_EXACT if count == 12 else count, None), (1, tours.Tour)):
@@ -406,20 +407,19 @@ class FramesTests(ToolCase):
         rows = [(lat, "x", lon) for lon, lat in places]
         frame = pandas.DataFrame(rows, columns=["lat", "name", "lon"], index=["depot", "shop", "farm"])
         rows = hierarchy.table(places)
-        table = hierarchy.table(frame, frame.iloc[:2])
-        assert table.index.tolist() == ["depot", "shop", "farm"] and table.columns.tolist() == ["depot", "shop"]
-        assert table.fillna(-1).to_numpy().tolist() == rows[:, :2].tolist()
         for sums, what in (((), "lengths"), (["metres"], "sums")):
             with mock.patch.object(batch, "MAX_CELLS", 3), pytest.raises(domethyme.OutOfMemory, match=f"a table of .* {what}"):
                 hierarchy.table(places, sums=sums)
-        axes = hierarchy.table(places[:2], frame).axes + hierarchy.table(frame.iloc[1:], places).axes + hierarchy.table(frame).axes
-        assert [axis.tolist() for axis in axes] == [[0, 1], [*frame.index], [*frame.index[1:]], [0, 1, 2], [*frame.index], [*frame.index]]
+        assert hierarchy.table(frame, frame.iloc[:2]).to_numpy().tolist() == rows[:, :2].tolist()
+        names, sides = [*frame.index], ((places[:2], frame), (frame.iloc[1:], places), (frame,), (frame, frame[:2]))
+        axes = [[*map(list, hierarchy.table(*side).axes)] for side in sides]
+        assert axes == [[[0, 1], names], [names[1:], [0, 1, 2]], [names, names], [names, names[:2]]]
         apart = pandas.DataFrame([*places[:2], (0.0203, 0.005)], columns=["lon", "lat"])
         rows = hierarchy.table(apart.to_numpy())
         for missing in (-5, math.inf):
-            weights, metres = hierarchy.table(apart, missing=missing, sums=["metres"]).values()
-            assert weights.to_numpy().tolist() == hierarchy.table(apart, missing=missing).to_numpy().tolist() == np.where(rows < 0, missing, rows).tolist()
-            assert (rows < 0).any() and ((metres == missing) == (rows < 0)).all(axis=None)
+            tables = [hierarchy.table(apart, missing=missing), *hierarchy.table(apart, missing=missing, sums=["metres"]).values()]
+            assert all(each.to_numpy().tolist() == np.where(rows < 0, missing, rows).tolist() for each in tables[:2])
+            assert (rows < 0).any() and ((tables[2] == missing) == (rows < 0)).all(axis=None)
         assert hierarchy.directions(frame) == hierarchy.directions(places) == hierarchy.directions(np.array(places))
         assert hierarchy.directions(places[:1] * 2).line == places[:1] * 2
         for wrong, says in (

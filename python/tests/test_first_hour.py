@@ -100,7 +100,8 @@ def test_what_notebooks_and_others_know(village):
         assert bare.route(0, 5)._repr_html_() is None and not hasattr(bare.route(0, 5), "__geo_interface__")
         with pytest.raises(ValueError, match="no network to draw on"):
             bare.route(0, 5).geojson()
-    assert "more" not in routes[:20]._repr_html_() and repr(hierarchy) == f"<Hierarchy {hierarchy.path} of 38 nodes and {hierarchy.links} links>"
+    assert "more" not in routes[:20]._repr_html_()
+    assert repr(hierarchy) == f"<Hierarchy {hierarchy.path} of 38 nodes and {hierarchy.links} links>"
     other = types.SimpleNamespace(geojson=lambda drawn: {"features": [type(drawn)]})
     assert (route.geojson(other), routes.geojson(other)) == (domethyme.Route, {"features": [domethyme.Routes]})
 
@@ -131,7 +132,8 @@ def test_places_of_geopandas(village):
     routes = hierarchy.routes(pd.DataFrame({"from": [0, 0], "to": [5, far]}, index=["near", "far"]))
     frame, features = routes.to_geodataframe(), routes.geojson()["features"]
     assert frame.index.tolist() == ["near", "far"] and frame.crs == 4326 and frame.geometry["far"] is None
-    assert frame.loc["near", ["to", "length", "seconds", "metres"]].tolist() == [features[0]["properties"][name] for name in ("to", "length", "seconds", "metres")]
+    for name in ("to", "length", "seconds", "metres"):
+        assert frame.loc["near", name] == features[0]["properties"][name]
     assert json.loads(json.dumps(frame.geometry["near"].__geo_interface__)) == features[0]["geometry"]
     contours = hierarchy.within(places[0], [1, 2]).to_geodataframe()
     assert (contours.crs, contours["contour"].tolist()) == (4326, [2, 1])
@@ -167,7 +169,7 @@ PLACE = 47.1, 9.5
     (lambda h: domethyme.Graph.from_frame(pd.DataFrame({"a": [1], "b": [2]}), "a", "b"), "no column weight; it has a, b"),
     (lambda h: domethyme.from_osm("none.osm", "none"), "none.osm: No such file"),
     (lambda h: domethyme.prepare("li.net", "li.rch"), "its graph ends in .gr"), (lambda h: domethyme.prepare("li.osm.pbf", "li.rch"), "is a map"),
-    (lambda h: domethyme.prepare("a.b.net", "li.rch"), "its graph ends in .gr"), (lambda h: domethyme.prepare("li.2013.osm.pbf", "li.rch"), "is a map"),
+    (lambda h: domethyme.prepare("a.b.net", "c.rch"), "in .gr"), (lambda h: domethyme.prepare("a.b.osm.pbf", "c.rch"), "is a map"),
     (lambda h: domethyme.check("li.rch", "li.rch"), "li.rch: is a hierarchy"),
 ])
 def test_calls_that_nobody_can_mean(village, call, says):
@@ -176,23 +178,21 @@ def test_calls_that_nobody_can_mean(village, call, says):
 
 
 @pytest.mark.needs("import:networkx")
-@pytest.mark.parametrize("kind, back", [("MultiGraph", [(1, 2, 1), (1, 2, 2)]), ("MultiDiGraph", [])])
+@pytest.mark.parametrize("kind, back", [("MultiGraph", [(1, 0, 1), (1, 0, 2)]), ("MultiDiGraph", [])])
 def test_graphs_of_networkx(kind, back):
     """Nodes in the graph's order; an edge without a direction leads both ways, and one from a node to itself once."""
     import networkx
 
-    graph = getattr(networkx, kind)()
-    graph.add_nodes_from("cabd")
-    graph.add_edges_from([("b", "a", {"km": 2}), ("b", "a", {"km": 1}), ("c", "c", {"km": 5})])
-    for weight, scale, factor in (("km", None, 1), ("km", 10, 10), (None, None, 0)):
+    graph = getattr(networkx, kind)([("b", "a", {"km": 2}), ("b", "a", {"km": 1}), ("c", "c", {"km": 5})])
+    graph.add_node("d")
+    for weight, scale, factor in (("km", 10, 10), (None, None, 0)):
         made = domethyme.Graph.from_networkx(graph, weight, scale)
-        wanted = [(start, end, each * factor or 1) for start, end, each in sorted([(0, 0, 5), *back, (2, 1, 1), (2, 1, 2)])]
-        assert sorted(zip(*(each.tolist() for each in (made.from_nodes, made.to_nodes, made.weights)))) == wanted
-        assert [*made.keys] == ["c", "a", "b", "d"] and made.nodes == 4
+        arcs = zip(*(each.tolist() for each in (made.from_nodes, made.to_nodes, made.weights)))
+        assert sorted(arcs) == [(start, end, km * factor or 1) for start, end, km in [(0, 1, 1), (0, 1, 2), *back, (2, 2, 5)]]
+        assert [*made.keys] == ["b", "a", "c", "d"] and made.nodes == 4
     graph.add_edge("d", "a")
     with pytest.raises(ValueError, match="the edge from '[ad]' to '[ad]' has no km"):
         domethyme.Graph.from_networkx(graph, "km")
-    assert domethyme.Graph.from_networkx(networkx.Graph()).nodes == 0
 
 
 def test_keys_of_one_type():

@@ -70,7 +70,8 @@ def test_lengths_routes_and_tables(data: Any) -> None:
             added = st.one_of(st.just(0), st.integers(0, 50_000), st.just((1 << 32) - 1))
             starts, ends = (data.draw(st.dictionaries(nodes, added, min_size=1, max_size=4)) for _ in range(2))
             check_between(asked, starts, ends, data.draw(st.sampled_from(["mapping", "rows", "alone"])))
-            check_reach(asked, starts, data.draw(st.one_of(st.sampled_from([None, 0, 1 << 62]), st.integers(0, 100_000))), data.draw(st.booleans()))
+            limit = data.draw(st.one_of(st.sampled_from([None, 0, 1 << 62]), st.integers(0, 100_000)))
+            check_reach(asked, starts, limit, data.draw(st.booleans()))
 
 
 def check_pairs(asked: Asked, pairs: list[tuple[int, int]], form: str) -> None:

@@ -24,7 +24,7 @@ TABLES = [
 # A table of trips, or a row behind TRIPS, and what is said of it. 11586 * 11586 is 134,235,396, and 2^27 is 134,217,728.
 REFUSED = [
     ("0,-0.01,0,-0.02", [], "trips.csv, row 4: from_lon 0.0, from_lat -0.01 is 1,112 m from the nearest node"),
-    ("180,90,0,0", [], "trips.csv, row 4: from_lon 180.0, from_lat 90.0 is"), ("0,0,0,0.0001", ["--radius", "11.1"], "row 2: from_lon 0.0004"),
+    ("180,90,0,0", [], "trips.csv, row 4: from_lon 180.0, from_lat 90.0 is"),
     ("0,-0.01,0,0", [], "--radius is 1000 m"), ("0,0,1,0\n1,0,0,0", [], "trips.csv, row 4: to_lon 1.0, to_lat 0.0 is 110,973 m"),
     ("9.5,95,0,0", [], "row 4: from_lat '95' isn't from -90 to 90: are longitude and latitude swapped?"),
     ("181,0,0,0", [], "row 4: from_lon '181' isn't from -180 to 180: are these degrees?"),
@@ -56,7 +56,8 @@ class NearestTests(ToolCase):
         self.write("street.co", STREET_CO)
         self.assertEqual(self.run_tool("nearest", "street.co", "trips.csv").stdout, PAIRS.replace("street", "street.co"))
         self.assert_refused("nearest", "street.co", "trips.csv", "--on-roads", says="street.co: has no roads but nodes")
-        self.assertIn("q 1 4\n", self.run_tool("nearest", "street", "-", "--radius", "0", given=f"{HEAD}\n0,0,0.002,0.001\n").stdout)
+        found = self.run_tool("nearest", "street", "-", "--radius", "0", given=f"{HEAD}\n0,0,0.002,0.001\n").stdout
+        self.assertIn("q 1 4\n", found)
 
     def test_matrix(self):
         """All pairs of places, of a table or of a file of coordinates."""
@@ -101,7 +102,7 @@ class NearestTests(ToolCase):
 
     def test_arguments_that_are_refused(self):
         trips = ["street", "trips.csv"]
-        for words in [[], ["street"], [*trips, "--radius", "-1"], [*trips, "--radius", "nan"], [*trips, "--radius", "inf"], [*trips, "--radius", "near"],
+        for words in [[], ["street"], *([*trips, "--radius", far] for far in ("-1", "nan", "inf", "near")),
                       ["street", "places.co"], [*trips, "-o", "x", "--snapped", "x"]]:
             self.assertEqual(self.run_tool("nearest", *words, status=2).stdout, "")
         self.assertIn("--snapped", self.run_tool("nearest", "--help").stdout)

@@ -49,8 +49,9 @@ def test_ferries_alone(tmp_path, tool):
 class OnRoadsTests(ServiceCase):
     def test_input_that_is_refused(self):
         self.write("trips.csv", TRIPS)
-        says = "trips.csv, row 2: from_lon 0.0003, from_lat 1e-05 is 1 m from the nearest road, and --radius is 0.5 m"
-        self.assert_refused("nearest", "v", "trips.csv", "--on-roads", "--radius", "0.5", says=says)
+        for radius, says in (("0.5", "from_lon 0.0003, from_lat 1e-05 is 1 m"), ("1.5", "to_lon 0.0077, to_lat -2e-05 is 2 m")):
+            says = f"trips.csv, row 2: {says} from the nearest road, and --radius is {radius} m"
+            self.assert_refused("nearest", "v", "trips.csv", "--on-roads", "--radius", radius, says=says)
         for words in (["--matrix"], ["--skip-far"], ["--snapped", "s"]):
             self.run_tool("nearest", "v", "trips.csv", "--on-roads", *words, status=2)
         for words in ([], ["--trips", "trips.csv", "--format", "csv"]):

@@ -114,7 +114,8 @@ def test_a_file_that_is_read_again(tmp_path, monkeypatch, change, ask, why):
     """By its whole path, and if it is still the same, at the first such question only."""
     prepared(ROW, ROADS, tmp_path / "row").close()
     monkeypatch.chdir(tmp_path)
-    with domethyme.Hierarchy("row.rch", network=tmp_path / "row") as asked, domethyme.Hierarchy("row.rch", network=tmp_path / "row") as late:
+    asked, late = (domethyme.Hierarchy("row.rch", network=tmp_path / "row") for _ in range(2))
+    with asked, late:
         monkeypatch.chdir("/")
         assert ask(asked) == 2000
         change(tmp_path / "row.rch")
