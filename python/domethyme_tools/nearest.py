@@ -120,7 +120,7 @@ def read_trips(path: str, prefixes: tuple[str, str]) -> Trips:
             for prefix, ends in places.items():
                 ends.append((parse_degrees(fields, f"{prefix}lon", 180), parse_degrees(fields, f"{prefix}lat", 90)))
             trips.rows.append(row)
-            trips.fields.append(list(fields.values()))
+            trips.fields.append([fields[name] for name in records.columns])  # (a name may be there twice)
     return trips
 
 

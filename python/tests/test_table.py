@@ -51,6 +51,8 @@ class TableTests(ToolCase):
         self.write("at.co", "p aux sp co 2\nv 1 0 0\nv 2 1000 0\n")
         for name, words in (("at.csv", []), ("at.csv", ["--on-roads"]), ("at.co", ["--name", "place"])):
             self.assertEqual(self.table("--radius", "0", *words, places=[name] * 2), "from,1,2\n1,0,100\n2,200,0\n")
+        self.write("twice.csv", "x,x,key,lon,lat\n8,9,here,0,0\n")  # (columns that nobody asks for)
+        self.assertEqual(self.table("--name", "key", places=["twice.csv"] * 2), "from,here\nhere,0\n")
         self.write("none.csv", "lon,lat\n")
         for sources, targets, text, shape in [("none.csv", "targets.csv", "from,1,2\n", (0, 2)), ("none.csv", "none.csv", "from\n", (0, 0)),
                                               ("sources.csv", "none.csv", "from\n1\n2\n3\n", (3, 0))]:
