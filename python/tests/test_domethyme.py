@@ -438,9 +438,9 @@ print(domethyme.Hierarchy("--help").length(0, 2))
 
     def test_keys_of_a_column(self):
         """Of one type; several nodes have one where routes begin or end at a junction, and others can't be asked for."""
-        keys = domethyme.Keys.read(self.write("t.csv", "osm,ends\n7,to\n8,\n7,from\n7,no\n,\n9,to\n9,to\n"))
+        keys = domethyme.Keys.read(self.write("t.csv", "osm,ends\n7,to\n8,\n7,from\n7,no\n,from\n9,to\n9,to\n"))
         self.assertEqual((keys.node(7), keys.end(7), keys.end(7, 2), keys.node(8)), (2, 0, 2, 1))
-        self.assertEqual((keys.begins(), keys.key(4)), ({0: 2}, None))
+        self.assertEqual((keys.begins(), keys.key(4), None in keys), ({0: 2}, None, False))
         with self.assertRaisesRegex(domethyme.NoSuchNode, "9 names several nodes$"):
             keys.node(9)
         with self.assertRaisesRegex(domethyme.NoSuchNode, "'8' names no node; there is 8, a number$") as caught:

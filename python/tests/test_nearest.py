@@ -12,7 +12,7 @@ TRIPS = f"{HEAD}\n0.0004,0,0.002,0.0006\n0.0006,0,0.002,0.0004\n"
 OF_STREET = "c network street: 4 nodes\n"
 PAIRS = OF_STREET + "p aux sp p2p 2\nq 1 4\nq 2 3\n"
 FOUND = "from_node,from_metres,to_node,to_metres"
-PLACES = "name,lat,lon\nbaker,0,0.0004\nmill,0.0006,0.002\n"
+PLACES = "name,lat,lon\nbaker,0,0.0004\nmill,0.0007,0.002\n"
 # Tables of trips, the pairs that are printed, and what --snapped writes.
 TABLES = [
     (f"{HEAD}\n", "0\n", f"{HEAD},{FOUND}\n"),
@@ -62,13 +62,14 @@ class NearestTests(ToolCase):
     def test_matrix(self):
         """All pairs of places, of a table or of a file of coordinates."""
         self.write("places.csv", PLACES)
-        self.write("places.co", "p aux sp co 2\nv 1 400 0\nv 2 2000 600\n")
-        for name, columns, (one, other) in (("places.csv", "name {0}_lat {0}_lon", ("baker,0,0.0004", "mill,0.0006,0.002")),
-                                            ("places.co", "place {0}_lon {0}_lat", ("1,0.0004,0.0", "2,0.002,0.0006"))):
+        self.write("places.co", "p aux sp co 2\nv 1 400 0\nv 2 2000 700\n")
+        for name, columns, (one, other) in (("places.csv", "name {0}_lat {0}_lon", ("baker,0,0.0004", "mill,0.0007,0.002")),
+                                            ("places.co", "place {0}_lon {0}_lat", ("1,0.0004,0.0", "2,0.002,0.0007"))):
             found = self.run_tool("nearest", "street", name, "--matrix", "--snapped", "snapped.csv").stdout
             self.assertEqual(found, OF_STREET + "p aux sp p2p 4\nq 1 1\nq 1 4\nq 4 1\nq 4 4\n")
             heads = ",".join(f"{side}_{columns.format(side).replace(' ', ',')}" for side in ("from", "to"))
-            rows = [f"{a},{b},{1 if a == one else 4},44.5,{1 if b == one else 4},44.5" for a in (one, other) for b in (one, other)]
+            near = {one: "1,44.5", other: "4,33.4"}
+            rows = [f"{a},{b},{near[a]},{near[b]}" for a in near for b in near]
             self.assertEqual(self.snapped().splitlines(), [f"{heads},{FOUND}", *rows])
 
     def test_is_whole_before_the_pairs_begin(self):

@@ -35,6 +35,7 @@ class ReachToolTests(ReachCase):
         self.run_tool("reach", "town", "town.rch", "places.csv", "-o", "out")
         text = (self.folder / "out").read_text()
         self.assertEqual((json.loads(text), len(text.splitlines())), (self.hierarchy.within(place), 5))
+        self.assertEqual([feature["properties"]["contour"] for feature in json.loads(text)["features"]], [15, 10, 5])
 
     def test_weights_that_are_no_times(self):
         prepared([(0, 0), (0.01, 0)], [Road(0, 1, 111_195, 111_195)], self.folder / "road").close()
