@@ -21,7 +21,7 @@ from domethyme import belonging, links
 from domethyme.network import net_file
 from domethyme_service.dataset import DatasetPaths, open_dataset
 from domethyme_service.errors import StartupError
-from domethyme_tools import nearest, reach, table, to_geojson
+from domethyme_tools import match, nearest, reach, table, to_geojson
 
 FOREIGN = "is the hierarchy of another network than"
 # Three nodes in a row, and a detour: 1 to 2 and 2 to 3 of 100, 1 to 3 of 500 or, in another network, of less.
@@ -302,13 +302,15 @@ CALLS = [
     (nearest, ["net", "trips.csv", "--hierarchy", "net.rch"]), (nearest, ["net", "trips.csv", "--hierarchy", "net.rch", "--on-roads"]),
     (to_geojson, ["net", "answers", "--hierarchy", "net.rch"]), (table, ["net", "net.rch", "places.csv", "places.csv"]),
     (table, ["net", "net.rch", "places.csv", "places.csv", "--on-roads"]), (reach, ["net", "net.rch", "places.csv", "--minutes", "0.001"]),
+    (match, ["net", "net.rch", "places.csv"]),
 ]
 
 
 @pytest.mark.parametrize("tool, words", CALLS, ids=[" ".join(words) for _, words in CALLS])
 def test_tools_use_what_they_have_compared(tmp_path, monkeypatch, capsys, caplog, tool, words):
-    """All links, where asked to; and a network that takes the name of the compared one, a moment later, changes nothing."""
+    """A network that takes the name of the one that was compared, a moment later, changes nothing; all links are compared if asked."""
     monkeypatch.chdir(tmp_path)
+    monkeypatch.setattr(belonging, "MAX_COMPARED", 0)
     for name, text in (("places.csv", PLACES), ("trips.csv", TRIPS), ("answers", "r 3 1 4000 2 3 2 1\n"), ("n.csv", NODES)):
         (tmp_path / name).write_text(text)
     (tmp_path / "a.csv").write_text(ARCS.replace("weight", "seconds").replace("00", "").replace("c,b,1", "c,b,3"))
@@ -316,15 +318,6 @@ def test_tools_use_what_they_have_compared(tmp_path, monkeypatch, capsys, caplog
     for nodes, name in (("n.csv", "net"), ("swapped.csv", "new")):
         subprocess.run([TOOLS / "to_network", nodes, "a.csv", name], check=True, capture_output=True)
     domethyme.prepare("net.gr", "net.rch", workers=1).close()
-    with monkeypatch.context() as patch:
-        patch.setattr(belonging, "MAX_COMPARED", 0)
-        for more in ([], ["--compare-all"]):
-            caplog.clear()
-            patch.setattr(sys, "argv", [tool.__name__.rpartition(".")[2], *words, *more])
-            tool.main()
-            assert ("links were compared" in caplog.text) == (not more)
-    capsys.readouterr()
-    monkeypatch.setattr(sys, "argv", [tool.__name__.rpartition(".")[2], *words])
     compare, printed = belonging.compare, []
 
     def replacing(*arguments):
@@ -333,7 +326,9 @@ def test_tools_use_what_they_have_compared(tmp_path, monkeypatch, capsys, caplog
             os.replace("new.net", "net.net")
 
     monkeypatch.setattr(belonging, "compare", replacing)
-    for _ in range(2):
+    for more in (["--compare-all"], []):
+        monkeypatch.setattr(sys, "argv", [tool.__name__.rpartition(".")[2], *words, *more])
         tool.main()
+        assert ("--compare-all" in caplog.text) == (more == [])
         printed.append(capsys.readouterr().out)
     assert printed[0] == printed[1] != "" and not (tmp_path / "new.net").exists()

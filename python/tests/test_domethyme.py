@@ -198,6 +198,7 @@ print(domethyme.Hierarchy("--help").length(0, 2))
             with self.subTest(message=message), self.assertRaises(kind) as caught:
                 attempt()
             self.assertIsInstance(caught.exception, domethyme.Fault)
+            self.assertEqual(isinstance(caught.exception, FileNotFoundError), issubclass(kind, FileNotFoundError))
             told = str(caught.exception).splitlines()[0]
             self.assertEqual((told, caught.exception.status), (message, status))
         self.assertEqual(list(self.contents()), [graph])

@@ -97,9 +97,10 @@ def test_what_notebooks_and_others_know(village):
     for said in (repr(directions), repr(directions.legs)):
         assert f"weight {directions.weight}" in said and len(said) < 120
     with domethyme.Hierarchy(hierarchy.path) as bare:
-        assert bare.route(0, 5)._repr_html_() is None and not hasattr(bare.route(0, 5), "__geo_interface__")
-        with pytest.raises(ValueError, match="no network to draw on"):
-            bare.route(0, 5).geojson()
+        for shown in (bare.route(0, 5), bare.routes([[0, 5]])):
+            assert shown._repr_html_() is None and not hasattr(shown, "__geo_interface__")
+            with pytest.raises(ValueError, match="no network to draw on"):
+                shown.geojson()
     assert "more" not in routes[:20]._repr_html_()
     assert repr(hierarchy) == f"<Hierarchy {hierarchy.path} of 38 nodes and {hierarchy.links} links>"
     other = types.SimpleNamespace(geojson=lambda drawn: {"features": [type(drawn)]})

@@ -106,15 +106,15 @@ def give_another_time(path):
 
 @pytest.mark.parametrize("change", [give_another_inode, give_another_time])
 @pytest.mark.parametrize("ask, why", [
-    (lambda each: pickle.loads(pickle.dumps(each)).length(0, 2), "no other process can read it again"),
-    (lambda each: each.reach([2], towards=True)[0], "it can't be turned round"),
-    (lambda each: each.reach([0], sums=["metres"])["length"][2], "its links can't be summed up"),
+    (lambda each: pickle.loads(pickle.dumps(each)).length("a", "c"), "no other process can read it again"),
+    (lambda each: each.reach(["c"], towards=True)["a"], "it can't be turned round"),
+    (lambda each: each.reach(["a"], sums=["metres"])["length"]["c"], "its links can't be summed up"),
 ])
 def test_a_file_that_is_read_again(tmp_path, monkeypatch, change, ask, why):
     """By its whole path, and if it is still the same, at the first such question only."""
     prepared(ROW, ROADS, tmp_path / "row").close()
     monkeypatch.chdir(tmp_path)
-    asked, late = (domethyme.Hierarchy("row.rch", network=tmp_path / "row") for _ in range(2))
+    asked, late = (domethyme.Hierarchy("row.rch", network=tmp_path / "row", keys="abcdef") for _ in range(2))
     with asked, late:
         monkeypatch.chdir("/")
         assert ask(asked) == 2000
@@ -124,7 +124,7 @@ def test_a_file_that_is_read_again(tmp_path, monkeypatch, change, ask, why):
             ask(late)
     for each in (asked, late):
         with pytest.raises(ValueError, match="row.rch is closed"):
-            each.reach([3], towards=True)
+            each.reach(["d"], towards=True)
 
 
 def test_an_older_library(row, monkeypatch):
