@@ -142,6 +142,9 @@ class VillageTests(ToolCase):
         self.assertAlmostEqual(found["features"][0]["properties"]["metres"], 0.8 * STEP, delta=0.5)
         found = json.loads(self.run_tool("match", "v", "v.rch", "-", "--ignore-gaps", "--deviation", "4", given=(self.folder / "trace.csv").read_text()).stdout)
         self.assertEqual([feature["properties"]["rows"] for feature in found["features"]], [[2, 3, 4, 5, 6]])
+        for words, ways in ([], 0), (["--deviation", "12"], 1):  # (without a column of them; 33 m beside the street)
+            beside = self.run_tool("match", "v", "v.rch", "-", *words, given="lon,lat\n0.0003,0.0003\n0.0008,0.0003\n").stdout
+            self.assertEqual(len(json.loads(beside)["features"]), ways)
         for text, says in [("lon,lat\n0,0\n", "two places or more"), ("lon,lat,seconds\n0,0,1\n0,0,x\n", "row 3: seconds 'x' is not a number"),
                            ("lon,lat,seconds\n0,0,1\n0,0,\n", "row 3: seconds '' is not a number"),
                            ("lon,lat,seconds\n0,0,2\n0,0,1\n", "don't fall"), ("lon,lat,deviation\n0,0,\n0,0,0\n", "above 0")]:
