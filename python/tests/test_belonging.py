@@ -164,15 +164,6 @@ class HierarchyTests(ToolCase):
         with domethyme.Hierarchy(town, keys=keys) as hierarchy:
             self.assertEqual(hierarchy.length("a", "b"), 7)
 
-    def test_lists_of_another_length(self):
-        self.network("net")
-        path = self.prepared("net")
-        for keys in (["a", "b"], ["a", "b", "c", "d"], domethyme.Keys(["a", "b"]), ["a"]):
-            with self.assertRaisesRegex(ValueError, rf"keys of {len(keys)} nodes, and the hierarchy has 3"):
-                domethyme.Hierarchy(path, keys=keys)
-        with domethyme.Hierarchy(path, keys={"a": 0, "b": 1}) as hierarchy:
-            self.assertEqual(hierarchy.route("a", "b").nodes, ["a", "b"])
-
 
 class ToolTests(ToolCase):
     """The tools: the hierarchy of a network before, in the places of which another one has come."""

@@ -71,13 +71,10 @@ class DomethymeTests(ToolCase):
     def test_all_options_of_prepare(self):
         options = {"order": "edges", "workers": 1, "seed": 7, "switch_order_after": 2}
         self.assertEqual(self.prepared("options", *SQUARE, **options).length(3, 2), 13)
-        self.assertEqual(self.prepared("options", *SQUARE, switch_order_after=2).length(3, 2), 13)
-        with self.assertRaisesRegex(domethyme.ProgramError, "--stint"):
-            self.prepared("options", *SQUARE, switch_order_after=0)
         with self.assertRaisesRegex(domethyme.ProgramError, "--stint takes"):
             self.prepared("options", *SQUARE, order="balanced", switch_order_after=2)
         for options, words in [
-            ({}, "balanced"), ({"switch_order_after": 2}, "depth --stint 2"),
+            ({}, "balanced"), ({"switch_order_after": 2}, "depth --stint 2"), ({"switch_order_after": 0}, "depth --stint 0"),
             ({"workers": 0, "seed": 0}, "balanced --workers 0 --seed 0"),
             ({"order": "edges", "seed": 5, "sequential": True}, "edges --seed 5 --sequential"),
         ]:
@@ -299,9 +296,9 @@ print(domethyme.Hierarchy("--help").length(0, 2))
                 self.assertEqual(([*hierarchy.keys], hierarchy.length("a", "c")), (["a", None, "c", None], 7))
                 with self.assertRaisesRegex(domethyme.NoSuchNode, "names no node"):
                     hierarchy.matrix(pd.Series(["a", missing], dtype=object))
-        for keys, says in [([1, 1], "key 1 names two nodes"), (range(5), "has 4"), ({"a": 0, "b": 0}, "name one node"),
-                           ({"a": 0.5}, "is no node"),
-                           ({"a": -1}, "is no node"), ({"a": float("inf")}, "is no node"), ({"a": None}, "is no node"),
+        for keys, says in [([1, 1], "key 1 names two nodes"), (range(5), "keys of 5 nodes, and the hierarchy has 4"),
+                           (domethyme.Keys([1, 2]), "keys of 2 nodes"), ({"a": 0, "b": 0}, "name one node"),
+                           *(({"a": node}, "is no node") for node in (-1, 0.5, float("inf"), None)),
                            ([["a"], ["b"], ["c"], ["d"]], "have to be hashable"), (large[:3], "keys of 3 nodes, and the hierarchy has 4")]:
             with self.subTest(says=says), self.assertRaisesRegex(ValueError, says):
                 domethyme.Hierarchy(self.folder / "square.rch", keys=keys)
@@ -408,7 +405,8 @@ print(domethyme.Hierarchy("--help").length(0, 2))
         with domethyme.Hierarchy(path, keys=domethyme.Keys.load(path)) as hierarchy:
             self.assertEqual((hierarchy.length("a", 7), hierarchy.route("b", "a").nodes), (7, ["b", 7, "a"]))
         for keys in (["a", "b", 7], {"a": 0, 7: 2}, ["x", "y", "z"]):
-            domethyme.Hierarchy(path, keys=keys).close()
+            with domethyme.Hierarchy(path, keys=keys) as hierarchy:
+                self.assertEqual([*hierarchy.keys], [*keys] if isinstance(keys, list) else ["a", None, 7])
         with self.assertRaisesRegex(ValueError, "key 'b' names node 0 here, and node 1 in .*firm.rch.keys"):
             domethyme.Hierarchy(path, keys=["b", "a", 7])
 
