@@ -191,6 +191,16 @@ class RouterTests(ToolCase):
             with self.subTest(says=says), self.assertRaisesRegex(domethyme.HierarchyError, f"f.rch: .*{says}"):
                 Router(data, "f.rch")
 
+    def test_a_file_of_no_graph(self):
+        """A route by it would go through a node twice; others are answered."""
+        links = [(0, 1, 2, 2, 3), (0, 3, 1, 1, NONE), (1, 2, 2, 2, 3), (1, 3, 1, 1, NONE), (3, 1, 1, 1, NONE), (3, 2, 1, 1, NONE)]
+        (self.folder / "x.rch").write_bytes(spelled([1, 3, 2, 0], links, 100))
+        with domethyme.Hierarchy(self.folder / "x.rch") as hierarchy:
+            for ask in (lambda: hierarchy.route(0, 2), lambda: hierarchy.routes([[0, 2]])):
+                with self.assertRaisesRegex(domethyme.HierarchyError, "x.rch: the route would repeat a node"):
+                    ask()
+            self.assertEqual(hierarchy.route(0, 1).nodes, [0, 3, 1])
+
     def test_a_library_that_is_not_there(self):
         with unittest.mock.patch.dict(os.environ, DOMETHYME_LIBRARY=str(self.folder / "no.so")):
             with self.assertRaisesRegex(domethyme.LibraryNotFound, "no.so: No such file or directory"):
