@@ -278,6 +278,8 @@ def test_places(data: Any) -> None:
         if made.roads.unit == "distance":
             with pytest.raises(ValueError, match="aren't a time"):
                 hierarchy.reach([0], minutes=1)
+            with pytest.raises(ValueError, match="is too much: lengths are asked for up to 2.62"):
+                hierarchy.within(spots, metres=[250, 1e17])
 
 
 def check_nearest(hierarchy: domethyme.Hierarchy, network: Network, place: Point, side: Any) -> None:
