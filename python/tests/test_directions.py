@@ -370,11 +370,11 @@ def test_radius_and_ferries(tmp_path: pathlib.Path) -> None:
     with domethyme.Hierarchy(tmp_path / "net.rch", network=tmp_path / "net") as hierarchy:
         places = [(0.002, 0.011), (0.009, 0.0)]
         to_places = functools.partial(hierarchy.table, places[1:])
-        for ask in (hierarchy.directions, hierarchy.table, to_places, hierarchy.tour, hierarchy.alternatives):
+        for call in (hierarchy.directions, hierarchy.table, to_places, hierarchy.tour, hierarchy.alternatives):
             for words in ({"radius": 1300}, {"snapping": "any"}, {"radius": 1200, "snapping": "any"}):
                 with pytest.raises(domethyme.NoSuchNode):
-                    ask(places, **words)
-            assert ask(places, radius=1300, snapping="any") is not None
+                    call(places, **words)
+            assert call(places, radius=1300, snapping="any") is not None
 
 
 def test_places_beyond_the_search() -> None:

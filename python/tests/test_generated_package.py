@@ -1,5 +1,4 @@
 """The package on drawn networks, with and without keys: lengths, routes, tables, what is reached, nodes and frames."""
-import itertools
 import json
 import math
 import pathlib
