@@ -114,6 +114,10 @@ class VillageTests(ToolCase):
             for count, wanted in ((3, [[0, 1, 5]]), (4, [[0, 1], [2, 3, 4, 5]])):
                 trace = [*self.along(0.0001, 0.0005), *([*far, far[0]][:count]), *self.along(0.0009)]
                 self.assertEqual([way.points for way in hierarchy.match(trace).matchings], wanted)
+            # (and as many of them as there are between others)
+            steps = self.along(0.0001, 0.0005, 0.0009, 0.0013, 0.0017, 0.0021)
+            trace = [place for step in steps for place in (step, far[0])]
+            self.assertEqual([way.points for way in hierarchy.match(trace).matchings], [[0, 2, 4, 6, 8, 10]])
 
     def test_arguments_that_are_refused(self):
         for words, says in [

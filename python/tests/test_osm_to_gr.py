@@ -140,7 +140,7 @@ class Village(NetworkCase):
         self.assertEqual({arc.wkt for arc in rows if arc.name == "The Ring"}, both)
 
     def test_shorter_arcs(self):
-        self.convert("--longest-arc", "100", "--weight", "length")
+        self.convert("--longest-arc", "92.7", "--weight", "length")
         drawn = self.drawn()
         # 2 steps are three parts of 74.13 m, 1 step two of 55.60 m, and 5 steps six of 92.66 m
         self.assertEqual(max(arc.metres for arc in self.rows()), 92.66)
