@@ -48,7 +48,7 @@ def without(made: Drawn, is_left_out: Callable[[Arc], bool]) -> Drawn | None:
     largest = next(each for each in sets if len(each) == most)
     ends = {arc.end for arc in plain.arcs if arc.start in largest and tables.nodes[arc.end].ends == "to"}
     starts = {arc.start for arc in plain.arcs if arc.end in largest and tables.nodes[arc.start].ends == "from"}
-    kept = [row for row in arcs if tables.arcs[row].start in largest | starts and tables.arcs[row].end in largest | ends]
+    kept = [row for row in arcs if {*tables.arcs[row][:2]} <= largest | starts | ends]  # (as a ring at such a node)
     few = with_arcs(tables, kept)
     # (an arc follows on another if it does so at one of the nodes that the junction is split into)
     following = {(rows[one], rows[other]) for one in kept for other in kept if tables.arcs[one].end == tables.arcs[other].start}
