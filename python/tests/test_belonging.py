@@ -40,7 +40,8 @@ class HierarchyTests(ToolCase):
         return self.folder / f"{name}.rch"
 
     def test_networks_that_differ(self):
-        """Another number of nodes; a weight, heavier, lighter, or lighter where there is a shortcut; an arc more, and one less."""
+        """Another number of nodes; a weight, heavier, lighter, or lighter where there is a shortcut; an arc more, and one less. Behind the
+        last link too: the other file has none from its last node."""
         right = self.network("net")
         path = self.prepared("net")
         with domethyme.Hierarchy(path, network=right) as hierarchy:
@@ -57,6 +58,10 @@ class HierarchyTests(ToolCase):
             other = self.network(f"other{number}", arcs, nodes)
             with self.subTest(says=says), self.assertRaisesRegex(domethyme.WrongHierarchy, f"net.rch: {FOREIGN} .*: {says}"):
                 domethyme.Hierarchy(path, network=other)
+        ahead = self.network("ahead", ARCS.replace("c,b,100\n", ""))
+        with self.assertRaisesRegex(domethyme.WrongHierarchy, "from node 3 to node 2 it lacks an arc"):
+            domethyme.Hierarchy(self.prepared("ahead"), network=self.network("back", ARCS))
+        domethyme.Hierarchy(self.folder / "ahead.rch", network=ahead).close()
         # a parallel arc that is heavier, and a road from a node to itself, change nothing
         domethyme.Hierarchy(path, network=self.network("same", ARCS + "a,b,700\nb,b,3\n")).close()
 

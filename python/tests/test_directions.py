@@ -249,6 +249,10 @@ def test_roads_of_a_direction_and_a_side(tmp_path: pathlib.Path) -> None:
             [(0.0003, 0.0005), (0.0021, 0.01002)], bearings=[(90, 5), None], approaches=[None, "curb"]
         )
         assert (east.lat, {*east.exits}, {*bend.exits}, {*bend.entries}) == (0.002, {141}, {143}, {142})
+        (kept,) = hierarchy.network.points_on_roads([(0.0005, 0.0019)], 50, bearings=[(90, 5)], approaches=["curb"])
+        assert {*kept.exits} == {141}
+        with pytest.raises(domethyme.NoSuchNode):  # (westwards the curb is on its other side)
+            hierarchy.network.points_on_roads([(0.0005, 0.0019)], 50, bearings=[(270, 5)], approaches=["curb"])
 
 
 def least_weight(legs: Any) -> int | None:

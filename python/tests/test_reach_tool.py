@@ -44,7 +44,7 @@ class ReachToolTests(ReachCase):
         self.assert_refused("reach", "road", "road.rch", "at.csv", "--metres", "5", says="road: the weights of the")
 
     def test_places_that_are_refused(self):
-        for name, text, says in (("far", "lon,lat\n9,47\n9.004,48\n", "far, row 3: has no road within 1000 m"),
+        for name, text, says in (("far", "lon,lat\n9,47\n\n9.004,48\n", "far, row 4: has no road within 1000 m"),
                                  ("none", "lon,lat\n", "none: has no place"), ("odd", "lon,lat\n9,x\n", "odd, row 2"),
                                  ("names", "x,y\n9,47\n", "lon")):
             self.write(name, text)
