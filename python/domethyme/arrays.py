@@ -59,7 +59,8 @@ def pairs_of(pairs: Any, keys: Keys | None, nodes: int) -> Numbers:
     outside = np.flatnonzero((found >= nodes).any(axis=1))
     if len(outside):
         row = int(outside[0])
-        raise NoSuchNode(f"row {row} of the pairs, {found[row].tolist()}, has a node that the hierarchy lacks", row)
+        pair = found[row].tolist()
+        raise NoSuchNode(f"row {row} of the pairs, {pair}, has a node that the hierarchy lacks", next(node for node in pair if node >= nodes))
     return found
 
 
@@ -124,8 +125,13 @@ def places_of(places: Any) -> NDArray[np.float64]:
 
 
 def is_pandas(value: Any) -> bool:
-    """Whether the value is of pandas, which is then loaded."""
-    return type(value).__module__.partition(".")[0] == "pandas"
+    """Whether the value is of pandas, which is then loaded, or of a kind of its objects, as geopandas' frames."""
+    return any(kind.__module__.partition(".")[0] == "pandas" for kind in type(value).__mro__)
+
+
+def index_of(pairs: Any) -> Any:
+    """The index of a frame or Series of pandas, None for anything else."""
+    return pairs.index if hasattr(pairs, "iloc") else None
 
 
 def series(lengths: Numbers, index: Any) -> Any:

@@ -40,6 +40,7 @@ def table(
         raise OutOfMemory(f"{router.name}: {size}: ask for fewer sources at a time", 6)
     rows, columns = (np.ascontiguousarray(nodes, dtype=np.uint32) for nodes in (sources, targets))
     found = np.empty((len(rows), len(columns)), np.int64)
+    router.need_open()
     if found.size:
         with reporting(progress) as on_progress:
             map_chunks(
@@ -128,6 +129,7 @@ def map_chunks(
 ) -> list[T]:
     """What `query_chunk` returns for each part of so many questions, in order. Each part has a searcher of its own while it is asked.
     `on_done` receives how many questions are answered, in this thread."""
+    router.need_open()
     parts = [slice(begin, begin + at_a_time) for begin in range(0, count, at_a_time)]
 
     def run_chunk(part: slice) -> T:

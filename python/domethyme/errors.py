@@ -94,7 +94,7 @@ class MapError(FileError):
 class NoSuchNode(DomethymeError, ValueError, LookupError):
     """A node that the hierarchy doesn't have, or a key that names none.
 
-    key  the node or key
+    key  the node or key; the number from 0 of a place without one near it
     """
 
     def __init__(self, message: str, key: object = None) -> None:

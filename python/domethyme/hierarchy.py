@@ -100,11 +100,13 @@ class Hierarchy:
             self.keys = None if keys is None else Keys(keys, self.nodes)
             if self.keys is not None:
                 self.keys.check_consistent(path, data)
-            if isinstance(network, (str, os.PathLike)):
+            if network is not None:
                 need("numpy")
                 from .network.network import Network
 
-                network = Network(network)
+                if not isinstance(network, (str, os.PathLike, Network)):
+                    raise ValueError(f"network is a Network, or the prefix of its files, and no {type(network).__name__}")
+                network = network if isinstance(network, Network) else Network(network)
             self.network, self._compare_all = network, compare_all
             self._router = Router(data, self._name)
             del data  # (the library has what it needs of it)
@@ -171,8 +173,8 @@ class Hierarchy:
         need("numpy")
         from . import arrays, batch
 
-        found = batch.lengths(self._router, arrays.pairs_of(pairs, self.keys, self.nodes))
-        return arrays.series(found, pairs.index) if arrays.is_pandas(pairs) else found
+        found, index = batch.lengths(self._router, arrays.pairs_of(pairs, self.keys, self.nodes)), arrays.index_of(pairs)
+        return found if index is None else arrays.series(found, index)
 
     def routes(self, pairs: Any) -> "Routes":
         """The Routes of many pairs, which are given and asked for as for `lengths`."""
@@ -182,8 +184,7 @@ class Hierarchy:
 
         asked = arrays.pairs_of(pairs, self.keys, self.nodes)
         lengths, counts, nodes = batch.routes(self._router, asked)
-        index = pairs.index if hasattr(pairs, "iloc") else None
-        found = routes.Routes(lengths, nodes, offsets(counts), asked, self.keys, index)
+        found = routes.Routes(lengths, nodes, offsets(counts), asked, self.keys, arrays.index_of(pairs))
         found.network = self.network
         return found
 
@@ -339,18 +340,18 @@ class Hierarchy:
         from .network import isochrones
 
         for name, numbers in (("minutes", minutes), ("metres", metres)):
-            if not isinstance(numbers, Iterable):
+            if not is_list(numbers):
                 raise ValueError(f"{name} are a list, as [{numbers!r}], and a place is (lon, lat)")
-        asked = [*map(to_python_scalar, metres)] or [*map(to_python_scalar, minutes)] or list(DEFAULT_MINUTES)
-        roads, is_metres = network.roads, len(metres) > 0
-        limits = isochrones.limits(roads.unit, minutes if is_metres else asked, metres)
+        minutes, metres = ([*map(to_python_scalar, numbers)] for numbers in (minutes, metres))
+        roads, asked = network.roads, metres or minutes or list(DEFAULT_MINUTES)
+        limits = isochrones.limits(roads.unit, minutes if metres else asked, metres)
         if max(limits) > MAX_LIMIT:
             raise ValueError(f"{max(asked):g} is too much: lengths are asked for up to 2^62")
         points = network.points_on_roads(place, radius)
         lengths = functools.partial(batch.reach, self._towards() if towards else self._router)
         reach = isochrones.reach_of(roads, points, limits, lengths, towards)
         style = isochrones.Style(shape, generalize, denoise, colors, roads.texts[0])
-        return Features(isochrones.features(reach, asked, "distance" if is_metres else "time", style), network)
+        return Features(isochrones.features(reach, asked, "distance" if metres else "time", style), network)
 
     # Places on roads
 
@@ -527,6 +528,7 @@ class Hierarchy:
         need("numpy")
         from .network.snapping import SnappedPoint
 
+        self._router.need_open()
         network = self._need_network()
         if not (isinstance(places, Sequence) and places and all(isinstance(each, SnappedPoint) for each in places)):
             return network.points_on_roads(
@@ -553,6 +555,7 @@ class Hierarchy:
 
         network = self._need_network()
         if towards not in self._summers:
+            self._router.need_open()
             turned = self._towards() if towards else None
             with self._open_again("its links can't be summed up") as file:
                 self._summers[towards] = Summer(self._router, network.millimetres(file.fileno(), self._name), turned)
@@ -562,8 +565,7 @@ class Hierarchy:
         """The router of the hierarchy with each link turned round, which is opened once. Raises WrongHierarchy where the file was
         replaced before, ValueError where this is closed, and what opening raises."""
         if self._turned is None:
-            if self._router.is_closed:
-                raise ValueError(f"the hierarchy {self._name} is closed")
+            self._router.need_open()
             with self._open_again("it can't be turned round") as file:
                 self._turned = Router(pread_all(file.fileno(), 0, self._stamp.size), self._name, is_turned=True)
         return self._turned
@@ -630,7 +632,7 @@ class Hierarchy:
 
 def is_with_metres(sums: Sequence[str]) -> bool:
     """Whether a table has the metres along paths too. Raises ValueError for other sums."""
-    if sums and (isinstance(sums, str) or not isinstance(sums, Iterable) or [*sums] != ["metres"]):
+    if sums and not (is_list(sums) and [*sums] == ["metres"]):
         raise ValueError(f'sums has to be ["metres"], and is {sums!r}')
     return bool(sums)
 
@@ -644,8 +646,13 @@ def reopened(path: str, keys: Keys | None, network: "Network | None", compare_al
 
 def need_list(name: str, nodes: Any) -> None:
     """Raises ValueError for a node alone, or a key that is a text."""
-    if isinstance(nodes, str) or not isinstance(nodes, Iterable) or getattr(nodes, "ndim", 1) == 0:
+    if not is_list(nodes):
         raise ValueError(f"{name} are nodes in a list, as [{nodes!r}]")
+
+
+def is_list(values: Any) -> bool:
+    """Whether these are values to go through, and no text."""
+    return isinstance(values, Iterable) and not isinstance(values, str) and getattr(values, "ndim", 1) > 0
 
 
 def is_whole(value: Any) -> bool:

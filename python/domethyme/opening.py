@@ -10,6 +10,9 @@ from .keys import Keys
 from .program import StrPath
 from .progress import Progress, reporting
 
+# What the names of a network's files end with.
+ENDING = re.compile(r"\.(rch|net|gr)$")
+
 
 def from_osm(
     path: StrPath, out: StrPath, profile: StrPath = "car", *, progress: Progress = False, order: Order | None = None, **options: Any
@@ -35,6 +38,8 @@ def from_osm(
     names = os.fspath(out)
     if not os.path.basename(names) or os.path.isdir(names):
         raise ValueError(f"out is a prefix of files, as {os.path.join(names, 'map')}, and {names!r} is a folder, or empty")
+    if (prefix := ENDING.sub("", names)) != names:
+        raise ValueError(f"out is a prefix of files, as {prefix}, and {names!r} the name of one")
     chosen, rules = conversion.options_of(options), vehicle_profile.read_profile(os.fspath(profile))
     with reporting(progress) as on_progress:
         conversion.write_network(path, names, rules, chosen, on_progress)
@@ -49,7 +54,7 @@ def open(path: StrPath) -> Hierarchy:
 
     Raises HierarchyNotFound, and what Hierarchy raises for files that don't belong together.
     """
-    prefix = re.sub(r"\.(rch|net|gr)$", "", os.fspath(path))
+    prefix = ENDING.sub("", os.fspath(path))
     hierarchy = f"{prefix}.rch"
     keys = Keys.load(hierarchy) if os.path.exists(hierarchy) and os.path.exists(f"{hierarchy}.keys") else None
     if not os.path.exists(f"{prefix}.net"):

@@ -168,9 +168,10 @@ class Router:
         self._making, self._is_closed = threading.Lock(), False
         _routers.add(self)
 
-    @property
-    def is_closed(self) -> bool:
-        return self._is_closed
+    def need_open(self) -> None:
+        """Raises ValueError if this is closed."""
+        if self._is_closed:
+            raise ValueError(f"the hierarchy {self.name} is closed")
 
     def close(self) -> None:
         """Frees the memory, that of a searcher which is lent once it comes back. Questions then raise ValueError."""
@@ -216,8 +217,7 @@ class Router:
     def clone(self) -> Searcher:
         """Another searcher, which is the caller's. Raises OutOfMemory, and ValueError if this is closed."""
         with self._making:
-            if self._is_closed:
-                raise ValueError(f"the hierarchy {self.name} is closed")
+            self.need_open()
             made = self._first.clone()
         if made is None:
             raise OutOfMemory(f"{self.name}: {error_message(OUT_OF_MEMORY)}", 6)
@@ -233,8 +233,7 @@ class Router:
             except IndexError:
                 pass
             with self._making:
-                if self._is_closed:
-                    raise ValueError(f"the hierarchy {self.name} is closed")
+                self.need_open()
                 made = self._first.clone()
             if made is not None:
                 self._made.add(made)

@@ -1,11 +1,11 @@
 """What open hierarchies, pickled ones and services answer by while files are replaced, in drawn orders."""
+import concurrent.futures
 import functools
 import os
 import pathlib
 import pickle
 import shutil
 import tempfile
-import threading
 from typing import Any
 
 import pytest
@@ -21,11 +21,11 @@ import domethyme
 
 NODES, VERSIONS = 6, 3
 FILES = ("gr", "net", "rch")
-# The question, and a node or two, or a place near a node.
+# The question, and a node or two, or a place near a node. Some need nothing open, and some read the file again, once.
 Question = tuple[str, int, int]
-QUESTIONS = st.tuples(
-    st.sampled_from(["length", "metres", "nearest", "reached", "lon"]), st.integers(0, NODES - 1), st.integers(0, NODES - 1)
-)
+KINDS = ("length", "metres", "nearest", "reached", "lon", "none", "stay", "towards", "summed")
+QUESTIONS = st.tuples(st.sampled_from(KINDS), st.integers(0, NODES - 1), st.integers(0, NODES - 1))
+ANY_TIME, READ_AGAIN = ("nearest", "lon", "pickled"), ("towards", "summed", "pickled")
 
 
 @functools.cache
@@ -61,8 +61,10 @@ def without_files_behind() -> Any:
 def expected(number: int, question: Question) -> Any:
     """The answer by a version of the network."""
     network, (what, one, other) = version(number), question
-    if what == "length":
+    if what in ("length", "towards"):
         return network.lengths({one: 0})[other]
+    if what in ("none", "stay"):
+        return 0
     if what == "nearest":
         return min(network.nearest(beside(one), "from")[0])
     if what == "lon":
@@ -71,9 +73,7 @@ def expected(number: int, question: Question) -> Any:
         _, point = next(network.by_distance(beside(one), None))
         assert point is not None
         return round(sum(along(line)[-1] for line in reached_lines(network, [point], 4000)))
-    length, = {network.lengths({one: 0})[other]}
-    legs = walks(network, one, other, length)
-    return {round(sum(arc.metres for arc in walk), 2) for walk in legs}
+    return {round(sum(arc.metres for arc in walk), 2) for walk in walks(network, one, other, network.lengths({one: 0})[other])}
 
 
 def walks(network: Network, one: int, other: int, length: int) -> list[list[Arc]]:
@@ -94,6 +94,14 @@ def answer(hierarchy: domethyme.Hierarchy, question: Question) -> Any:
     what, one, other = question
     if what == "length":
         return hierarchy.length(one, other)
+    if what == "towards":
+        return hierarchy.reach([other], towards=True)[one]
+    if what == "summed":
+        return hierarchy.reach([one], sums=["metres"])["metres"][other]
+    if what == "none":
+        return len([hierarchy.lengths, hierarchy.routes, hierarchy.matrix][one % 3]([]))
+    if what == "stay":
+        return hierarchy.directions([beside(one)] * 2).weight
     if what == "nearest":
         return hierarchy.nearest(*beside(one))[0]
     if what == "lon":
@@ -109,7 +117,7 @@ def answer(hierarchy: domethyme.Hierarchy, question: Question) -> Any:
 
 def is_right(found: Any, number: int, question: Question) -> bool:
     wanted = expected(number, question)
-    if question[0] == "metres":
+    if question[0] in ("metres", "summed"):
         return any(abs(found - each) < 0.011 for each in wanted)
     return abs(found - wanted) <= (3 if question[0] == "reached" else 0)
 
@@ -119,7 +127,18 @@ class Handle:
 
     def __init__(self, hierarchy: domethyme.Hierarchy, number: int, generation: int) -> None:
         self.hierarchy, self.number, self.generation = hierarchy, number, generation
-        self.is_closed = self.was_pickled = False
+        self.is_closed, self.read = False, set[str]()
+
+    def refuses(self, kind: str, generation: int) -> Any:
+        """The error for what is closed, or would have to read the file of another generation; None for what is answered."""
+        if self.is_closed and kind not in ANY_TIME:
+            return ValueError
+        is_late = kind in READ_AGAIN and kind not in self.read and self.generation != generation
+        return domethyme.WrongHierarchy if is_late else None
+
+    def is_right(self, question: Question) -> bool:
+        self.read.add(question[0])
+        return is_right(answer(self.hierarchy, question), self.number, question)
 
 
 class Files(RuleBasedStateMachine):
@@ -164,41 +183,32 @@ class Files(RuleBasedStateMachine):
 
     @rule(handle=handles, question=QUESTIONS)
     def ask(self, handle: Handle, question: Question) -> None:
-        if handle.is_closed and question[0] != "nearest" and question[0] != "lon":
-            with pytest.raises(ValueError):
+        if refused := handle.refuses(question[0], self.generation):
+            with pytest.raises(refused):
                 answer(handle.hierarchy, question)
         else:
-            assert is_right(answer(handle.hierarchy, question), handle.number, question)
+            assert handle.is_right(question)
 
     @rule(handle=handles, question=QUESTIONS)
     def fork(self, handle: Handle, question: Question) -> None:
         """A child has the hierarchy too."""
-        if handle.is_closed:
+        if handle.refuses(question[0], self.generation):
             return
         child = os.fork()
         if not child:
             status = 2
             try:
-                status = 0 if is_right(answer(handle.hierarchy, question), handle.number, question) else 1
+                status = 0 if handle.is_right(question) else 1
             finally:
                 os._exit(status)
         assert os.waitstatus_to_exitcode(os.waitpid(child, 0)[1]) == 0
 
     @rule(handle=handles, questions=st.lists(QUESTIONS, min_size=2, max_size=2))
     def ask_in_two_threads(self, handle: Handle, questions: list[Question]) -> None:
-        if handle.is_closed:
+        if any(handle.refuses(kind, self.generation) for kind, *_ in questions):
             return
-        found: dict[int, Any] = {}
-
-        def run(row: int) -> None:
-            found[row] = [answer(handle.hierarchy, questions[row]) for _ in range(3)]
-
-        threads = [threading.Thread(target=run, args=(row,)) for row in range(len(questions))]
-        for thread in threads:
-            thread.start()
-        for thread in threads:
-            thread.join()
-        assert all(is_right(each, handle.number, questions[row]) for row in found for each in found[row]) and len(found) == 2
+        with concurrent.futures.ThreadPoolExecutor(2) as threads:
+            assert all(threads.map(handle.is_right, questions * 3))
 
     @rule(handle=handles)
     def close(self, handle: Handle) -> None:
@@ -208,11 +218,11 @@ class Files(RuleBasedStateMachine):
     @rule(target=pickles, handle=handles)
     def dump(self, handle: Handle) -> Any:
         """Refused where the file is there no more: no other process could read it."""
-        if handle.generation != self.generation and not handle.was_pickled:
-            with pytest.raises(domethyme.WrongHierarchy):
+        if refused := handle.refuses("pickled", self.generation):
+            with pytest.raises(refused):
                 pickle.dumps(handle.hierarchy)
             return multiple()
-        handle.was_pickled = True
+        handle.read.add("pickled")
         return pickle.dumps(handle.hierarchy), handle.number
 
     @rule(target=handles, pickled=pickles)
@@ -224,7 +234,7 @@ class Files(RuleBasedStateMachine):
                 pickle.loads(data)
             return multiple()
         handle = Handle(pickle.loads(data), number, self.generation)
-        handle.was_pickled = True
+        handle.read.add("pickled")
         return handle
 
     @rule(target=services)
