@@ -1,27 +1,29 @@
 """Tests that what doesn't belong together is refused: a hierarchy of another network, keys of another file, pairs of another
 network, by the package, the tools and the service."""
 import contextlib
+import itertools
 import os
+import pathlib
+import pickle
 import random
+import re
 import shutil
 import struct
 import subprocess
-import sys
 import unittest.mock
 
 import numpy as np
-import pandas as pd
 import pytest
-from draws import one_road, write_network
+from draws import one_road, run_tool, write_network
 from service_case import ServiceCase
-from tool_case import TOOLS, VILLAGE, ToolCase
+from tool_case import VILLAGE
 
 import domethyme
 from domethyme import belonging, links
 from domethyme.network import net_file
 from domethyme_service.dataset import DatasetPaths, open_dataset
 from domethyme_service.errors import StartupError
-from domethyme_tools import match, nearest, reach, table, to_geojson
+from domethyme_tools.cli import ToolError
 
 FOREIGN = "is the hierarchy of another network than"
 # Three nodes in a row, and a detour: 1 to 2 and 2 to 3 of 100, 1 to 3 of 500 or, in another network, of less.
@@ -29,231 +31,222 @@ NODES = "node,lon,lat\na,0,0\nb,0.001,0\nc,0.002,0\n"
 ARCS = "from,to,weight\na,b,100\nb,a,100\nb,c,100\nc,b,100\na,c,500\n"
 
 
-class HierarchyTests(ToolCase):
-    def network(self, name, arcs=ARCS, nodes=NODES):
-        """A network of tables, which isn't prepared."""
-        self.run_tool("to_network", self.write(f"{name}-nodes.csv", nodes), self.write(f"{name}-arcs.csv", arcs), name)
-        return self.folder / name
+def made(folder, name, arcs=ARCS, nodes=NODES, is_prepared=True):
+    """The prefix of a network of tables, and of its hierarchy."""
+    for what, text in (("nodes", nodes), ("arcs", arcs)):
+        (folder / f"{name}-{what}.csv").write_text(text)
+    run_tool("to_network", folder / f"{name}-nodes.csv", folder / f"{name}-arcs.csv", folder / name)
+    if is_prepared:
+        domethyme.prepare(folder / f"{name}.gr", folder / f"{name}.rch", workers=1).close()
+    return folder / name
 
-    def prepared(self, name):
-        domethyme.prepare(self.folder / f"{name}.gr", self.folder / f"{name}.rch", workers=1).close()
-        return self.folder / f"{name}.rch"
 
-    def test_networks_that_differ(self):
-        """Another number of nodes; a weight, heavier, lighter, or lighter where there is a shortcut; an arc more, and one less. Behind the
-        last link too: the other file has none from its last node."""
-        right = self.network("net")
-        path = self.prepared("net")
+AHEAD = ARCS.replace("c,b,100\n", "")
+
+
+@pytest.mark.parametrize("before, arcs, nodes, says", [
+    (ARCS, ARCS, NODES + "d,0.003,0\n", "it has 3 nodes, and the network 4"),
+    (ARCS, ARCS.replace("b,c,100", "b,c,101"), NODES, "from node 2 to node 3 it has 100, where the least arc weighs 101"),
+    (ARCS, ARCS.replace("b,c,100", "b,c,99"), NODES, "from node 2 to node 3 it has 100, where the least arc weighs 99"),
+    (ARCS, ARCS.replace("a,c,500", "a,c,150"), NODES, "from node 1 to node 3 it has "),
+    (ARCS, ARCS + "c,a,1000\n", NODES, "from node 3 to node 1 it "),
+    (ARCS, ARCS.replace("b,a,100\n", ""), NODES, "from node 2 to node 1 it has 100, where there is no arc"),
+    (AHEAD, ARCS, NODES, "from node 3 to node 2 it lacks an arc"),
+])
+def test_networks_that_differ(tmp_path, before, arcs, nodes, says):
+    """Another number of nodes; a weight, heavier, lighter, or lighter where there is a shortcut; an arc more, and one less; and one
+    behind the last link. The same by a file of version 1, whose links are without their arcs."""
+    right, other = made(tmp_path, "net", before), made(tmp_path, "other", arcs, nodes, False)
+    path = tmp_path / "net.rch"
+    data, begin = path.read_bytes(), 24 + 4 * 3
+    rows = [data[at : at + 16] + data[at + 20 : at + 24] for at in range(begin, len(data), 24)]
+    for whole in (data, b"RCH1" + data[4:begin] + b"".join(rows)):
+        path.write_bytes(whole)
         with domethyme.Hierarchy(path, network=right) as hierarchy:
-            self.assertEqual(hierarchy.length(0, 2), 200)
-        more = NODES + "d,0.003,0\n"
-        for number, (nodes, arcs, says) in enumerate([
-            (more, ARCS, "it has 3 nodes, and the network 4"),
-            (NODES, ARCS.replace("b,c,100", "b,c,101"), "from node 2 to node 3 it has 100, where the least arc weighs 101"),
-            (NODES, ARCS.replace("b,c,100", "b,c,99"), "from node 2 to node 3 it has 100, where the least arc weighs 99"),
-            (NODES, ARCS.replace("a,c,500", "a,c,150"), "from node 1 to node 3 it has "),
-            (NODES, ARCS + "c,a,1000\n", "from node 3 to node 1 it "),
-            (NODES, ARCS.replace("b,a,100\n", ""), "from node 2 to node 1 it has 100, where there is no arc"),
-        ]):
-            other = self.network(f"other{number}", arcs, nodes)
-            with self.subTest(says=says), self.assertRaisesRegex(domethyme.WrongHierarchy, f"net.rch: {FOREIGN} .*: {says}"):
-                domethyme.Hierarchy(path, network=other)
-        ahead = self.network("ahead", ARCS.replace("c,b,100\n", ""))
-        with self.assertRaisesRegex(domethyme.WrongHierarchy, "from node 3 to node 2 it lacks an arc"):
-            domethyme.Hierarchy(self.prepared("ahead"), network=self.network("back", ARCS))
-        domethyme.Hierarchy(self.folder / "ahead.rch", network=ahead).close()
-        # a parallel arc that is heavier, and a road from a node to itself, change nothing
-        domethyme.Hierarchy(path, network=self.network("same", ARCS + "a,b,700\nb,b,3\n")).close()
+            assert (hierarchy.length(0, 2), hierarchy.links) == (200, len(rows))
+        with pytest.raises(domethyme.WrongHierarchy, match=f"net.rch: {FOREIGN} .*: {says}"):
+            domethyme.Hierarchy(path, network=other)
+    # a parallel arc that is heavier, and a road from a node to itself, change nothing
+    domethyme.Hierarchy(path, network=made(tmp_path, "same", before + "a,b,700\nb,b,3\n", is_prepared=False)).close()
 
-    def test_a_file_of_version_1(self):
-        """Its links are without their arcs."""
-        right, path = self.network("net"), self.prepared("net")
-        data, begin = path.read_bytes(), 24 + 4 * 3
-        links = [data[at : at + 16] + data[at + 20 : at + 24] for at in range(begin, len(data), 24)]
-        path.write_bytes(b"RCH1" + data[4:begin] + b"".join(links))
-        with domethyme.Hierarchy(path, network=right) as hierarchy:
-            self.assertEqual((hierarchy.length(0, 2), hierarchy.links), (200, len(links)))
-        with self.assertRaisesRegex(domethyme.WrongHierarchy, "from node 2 to node 3 it has 100, where the least arc weighs 99"):
-            domethyme.Hierarchy(path, network=self.network("other", ARCS.replace("b,c,100", "b,c,99")))
 
-    def test_arcs_that_are_too_long_to_be_summed(self):
-        refused = self.assertRaisesRegex(domethyme.NetworkError, "more than 4294967 seconds or metres")
-        for metres, told in (("4294967.295", contextlib.nullcontext()), ("4294967.296", refused)):
-            network = self.network("far", ARCS.replace("weight\n", "weight,metres\n").replace("00\n", f"00,{metres}\n"))
-            with domethyme.Hierarchy(self.prepared("far"), network=network) as hierarchy, told:
-                self.assertEqual(hierarchy.matrix([0], [2], sums=["metres"])["metres"].tolist(), [[2 * float(metres)]])
+@pytest.mark.parametrize("metres, is_refused", [("4294967.295", False), ("4294967.296", True)])
+def test_arcs_that_are_too_long_to_be_summed(tmp_path, metres, is_refused):
+    network = made(tmp_path, "far", ARCS.replace("weight\n", "weight,metres\n").replace("00\n", f"00,{metres}\n"))
+    refused = pytest.raises(domethyme.NetworkError, match="more than 4294967 seconds or metres")
+    with domethyme.Hierarchy(f"{network}.rch", network=network) as hierarchy, refused if is_refused else contextlib.nullcontext():
+        assert hierarchy.matrix([0], [2], sums=["metres"])["metres"].tolist() == [[2 * float(metres)]]
 
-    def test_one_weight_of_many(self):
-        """Of a made town with 900 nodes each arc in turn, some of them: a weight that differs by one is found, and so are drawn ones."""
-        draw, size = random.Random(1), 30
-        nodes = "lon,lat\n" + "".join(f"{x / 1000},{y / 1000}\n" for y in range(size) for x in range(size))
-        number = {(x, y): y * size + x + 1 for y in range(size) for x in range(size)}
-        ends = [(number[x, y], number[x + east, y + 1 - east]) for x in range(size - 1) for y in range(size - 1) for east in (0, 1)]
-        arcs = [(start, end, draw.randrange(50, 99)) for pair in ends for start, end in (pair, pair[::-1])]
 
-        def text(changed=None, by=0):
-            rows = [f"{start},{end},{weight + (row == changed) * by}\n" for row, (start, end, weight) in enumerate(arcs)]
-            return "from,to,weight\n" + "".join(rows)
+def test_one_weight_of_many(tmp_path, monkeypatch, caplog):
+    """Of a made town with 900 nodes some arcs in turn: a weight that differs by one is found, and so are drawn ones."""
+    draw, size = random.Random(1), 30
+    nodes = "lon,lat\n" + "".join(f"{x / 1000},{y / 1000}\n" for y in range(size) for x in range(size))
+    number = {(x, y): y * size + x + 1 for y in range(size) for x in range(size)}
+    ends = [(number[x, y], number[x + east, y + 1 - east]) for x in range(size - 1) for y in range(size - 1) for east in (0, 1)]
+    arcs = [(start, end, draw.randrange(50, 99)) for pair in ends for start, end in (pair, pair[::-1])]
 
-        self.network("town", text(), nodes)
-        path = self.prepared("town")
-        with open(path, "rb") as file:
-            for changed in draw.sample(range(len(arcs)), 5):
-                for by in (1, -1):
-                    arrays = net_file.read(f"{self.network('other', text(changed, by), nodes)}.net")
-                    with self.subTest(changed=changed, by=by), self.assertRaisesRegex(domethyme.WrongHierarchy, FOREIGN):
-                        belonging.compare(file.fileno(), "town.rch", arrays)
-                    few = unittest.mock.patch.multiple(links, DRAWN=1, ROUNDS=1), unittest.mock.patch.object(belonging, "MAX_COMPARED", 0)
-                    with few[0], few[1], self.subTest(changed=changed, by=by), self.assertRaisesRegex(domethyme.WrongHierarchy, FOREIGN):
-                        belonging.compare(file.fileno(), "town.rch", arrays, True)
-            with unittest.mock.patch.object(belonging, "MAX_COMPARED", 0):
-                with self.assertLogs("domethyme.belonging", "WARNING") as logged:
-                    belonging.compare(file.fileno(), "town.rch", net_file.read(str(self.folder / "town.net")))
-                self.assertRegex(logged.output[0], "town.rch: 5,000 of its [0-9,]+ links were compared with .*town.net: --compare-all")
-                with unittest.mock.patch.object(belonging, "MAX_COMPARED", links.Links.of(file.fileno(), "").size):
-                    with self.assertNoLogs("domethyme.belonging"):
-                        belonging.compare(file.fileno(), "town.rch", net_file.read(str(self.folder / "town.net")))
-                with self.assertRaisesRegex(domethyme.WrongHierarchy, FOREIGN):
-                    belonging.compare(file.fileno(), "town.rch", arrays)
-                with self.assertRaisesRegex(domethyme.WrongHierarchy, FOREIGN):
-                    domethyme.Hierarchy(path, network=self.folder / "other", compare_all=True)
+    def text(changed=None, by=0):
+        rows = [f"{start},{end},{weight + (row == changed) * by}\n" for row, (start, end, weight) in enumerate(arcs)]
+        return "from,to,weight\n" + "".join(rows)
 
-    def test_flipped_bits(self):
-        """A flipped bit that reading takes is found if it changes a length."""
-        self.run_tool("osm_to_gr", VILLAGE, "v", "--keep-islands")
-        path, damaged = self.prepared("v"), self.folder / "damaged.rch"
-        whole, draw, found = path.read_bytes(), random.Random(7), 0
-        with domethyme.Hierarchy(path) as hierarchy:
-            every = np.arange(hierarchy.nodes)
-            right = hierarchy.matrix(every, every)
-        for _ in range(600):
-            place = draw.randrange(24, len(whole))
-            damaged.write_bytes(whole[:place] + bytes([whole[place] ^ 1 << draw.randrange(8)]) + whole[place + 1 :])
+    right = net_file.read(f"{made(tmp_path, 'town', text(), nodes)}.net")
+    with open(tmp_path / "town.rch", "rb") as file:
+        size = links.Links.of(file.fileno(), "").size
+
+        def is_refused(network, most, *words):
+            monkeypatch.setattr(belonging, "MAX_COMPARED", most)
+            caplog.clear()
             try:
-                with domethyme.Hierarchy(damaged) as hierarchy:
-                    is_right = np.array_equal(hierarchy.matrix(every, every), right)
-            except domethyme.DomethymeError:
-                continue
-            if not is_right:
-                found += 1
-                with self.subTest(place=place), self.assertRaisesRegex(domethyme.WrongHierarchy, FOREIGN):
-                    domethyme.Hierarchy(damaged, network=self.folder / "v")
-        self.assertGreater(found, 0)
+                belonging.compare(file.fileno(), "town.rch", network, *words)
+            except domethyme.WrongHierarchy as error:
+                return FOREIGN in str(error)
+            return False
 
-    def test_nodes_without_arcs(self):
-        self.write("t.nodes.csv", "node,osm,lon,lat,ends\n1,7,0,0,\n2,8,0.001,0,\n")
-        self.write("x.co", "p aux sp co 4\nv 1 0 0\nv 2 1000 0\nv 3 2000 0\nv 4 3000 0\n")
-        self.network("net")
-        path = self.prepared("net")
-        for name, nodes in (("t", 2), ("x.co", 4)):
-            with self.assertRaisesRegex(domethyme.WrongHierarchy, f"{FOREIGN} .*{name}: it has 3 nodes, and the network {nodes}"):
-                domethyme.Hierarchy(path, network=self.folder / name)
-
-    def test_keys_of_another_file(self):
-        frame = pd.DataFrame({"from": ["a", "b", "c"], "to": ["b", "c", "a"], "weight": [3, 4, 5]})
-        firm, town = self.folder / "firm.rch", self.folder / "town.rch"
-        domethyme.Graph.from_frame(frame).prepare(firm, workers=1).close()
-        domethyme.Graph([0, 1, 2], [1, 2, 0], [7, 7, 7]).prepare(town, workers=1).close()
-        keys = domethyme.Keys.load(firm)
-        domethyme.Hierarchy(firm, keys=keys).close()
-        for each in (keys, domethyme.Keys(keys)):
-            with self.assertRaisesRegex(ValueError, r"the keys were saved for another file than .*town.rch: .* keys.save\(path\)"):
-                domethyme.Hierarchy(town, keys=each)
-        copy = shutil.copy(firm, self.folder / "copy.rch")
-        domethyme.Hierarchy(copy, keys=keys).close()
-        some = domethyme.Graph([0], [1], [5], nodes=3, keys=domethyme.Keys({"a": 0, "b": 1}))
-        some.prepare(self.folder / "some.rch", workers=1).close()
-        with domethyme.Hierarchy(self.folder / "some.rch", keys=domethyme.Keys.load(self.folder / "some.rch")) as hierarchy:
-            self.assertEqual((hierarchy.length("a", "b"), hierarchy.keys.key(2)), (5, None))
-        keys.save(town)
-        with domethyme.Hierarchy(town, keys=keys) as hierarchy:
-            self.assertEqual(hierarchy.length("a", "b"), 7)
+        for changed, by in itertools.product(draw.sample(range(len(arcs)), 5), (1, -1)):
+            other = net_file.read(f"{made(tmp_path, 'other', text(changed, by), nodes, False)}.net")
+            with unittest.mock.patch.multiple(links, DRAWN=1, ROUNDS=1):
+                assert is_refused(other, size) and is_refused(other, 0, True)
+        assert is_refused(other, 0)
+        assert not is_refused(right, size) and not caplog.messages
+        says = "town.rch: 5,000 of its [0-9,]+ links were compared with .*town.net: --compare-all, or compare_all=True, .*"
+        assert not is_refused(right, size - 1) and re.fullmatch(says, "".join(caplog.messages))
 
 
-class ToolTests(ToolCase):
-    """The tools: the hierarchy of a network before, in the places of which another one has come."""
-
-    def setUp(self):
-        super().setUp()
-        self.write("nodes.csv", NODES)
-        self.made(ARCS)
-        domethyme.prepare(self.folder / "net.gr", self.folder / "net.rch", workers=1).close()
-        self.write("trips.csv", "from_lon,from_lat,to_lon,to_lat\n0,0,0.002,0\n")
-
-    def made(self, arcs, *words):
-        self.write("arcs.csv", arcs)
-        return self.run_tool("to_network", "nodes.csv", "arcs.csv", "net", *words).stderr
-
-    def test_a_hierarchy_that_is_older(self):
-        self.assertIn("to_network: net.rch is older than net.gr: run `routecli prepare --order balanced net.gr net.rch` again\n", self.made(ARCS))
-        domethyme.prepare(self.folder / "net.gr", self.folder / "net.rch", workers=1).close()
-        self.assertIn("osm_to_gr: net.rch is older than net.gr: run", self.run_tool("osm_to_gr", VILLAGE, "net").stderr)
-        for later, is_older in ((0, False), (1, True)):  # (a nanosecond)
-            for name, stamp in (("net.rch", 10**18), ("net.gr", 10**18 + later)):
-                os.utime(self.folder / name, ns=(stamp, stamp))
-            self.assertEqual(belonging.older_hierarchy(str(self.folder / "net")) is not None, is_older)
-        (self.folder / "net.rch").unlink()
-        self.assertNotIn("older", self.made(ARCS))
-
-    def test_pairs_name_their_network(self):
-        pairs = self.run_tool("nearest", "net", "trips.csv", "--hierarchy", "net.rch").stdout
-        checksum = net_file.read(str(self.folder / "net.net")).checksum
-        self.assertEqual(pairs, f"c network net: 3 nodes, 5 arcs, checksum {checksum}\np aux sp p2p 1\nq 1 3\n")
-        origin = belonging.Origin.of(pairs.splitlines(True)[0].encode())
-        self.assertEqual(origin, ("net", 3, 5, checksum))
-        for origin in (("net", 3, 5, None), ("net", 3, None, None), ("a: 5 nodes, b", 0, 0, None), ("out/\xe9", 7, 9, "0" * 8)):
-            self.assertEqual(belonging.Origin.of(f"c {belonging.Origin(*origin).comment}\r\n".encode()), origin)
-        self.assertEqual(belonging.Origin("a\nb \udcff", 3).comment, "network a b \ufffd: 3 nodes")
-        for line in (b"c network", b"c network net: x nodes", b"c net: 3 nodes", b"q 1 2"):
-            self.assertIsNone(belonging.Origin.of(line))
-
-    def test_tools_compare(self):
-        self.run_tool("nearest", "net", "trips.csv", "-o", "pairs")
-        self.write("answers", self.run_program([domethyme.find_program(), "route", "net.rch", "pairs"]).stdout)
-        calls = [("nearest", "net", "trips.csv", "--hierarchy", "net.rch"), ("to_geojson", "net", "answers", "--hierarchy", "net.rch"),
-                 ("route_many", "net.rch", "pairs", "out", "--network", "net")]
-        for words in calls:
-            self.run_tool(*words)
-        self.run_tool("route_many", "net.rch", "pairs", "net.net", "--network", "net", status=2)
-        (self.folder / "out").unlink()
-        self.made(ARCS.replace("a,b,100", "a,b,99"))
-        for words in calls:
-            for more in ((), ("--compare-all",)):
-                self.assert_refused(*words, *more, says=f"net.rch: {FOREIGN} net.net: from node 1 to node 2 it has 100, where the least arc weighs 99")
-        self.write("nodes.csv", NODES + "d,0.003,0\n")
-        self.made(ARCS)
-        self.run_tool("nearest", "net", "trips.csv", "-o", "pairs")
-        (self.folder / "net.net").unlink()
-        self.assert_refused("route_many", "net.rch", "pairs", "out", says="pairs: is of the network net with 4 nodes, and net.rch has 3")
+def test_flipped_bits(tmp_path):
+    """A flipped bit that reading takes is found if it changes a length."""
+    run_tool("osm_to_gr", VILLAGE, tmp_path / "v", "--keep-islands")
+    with domethyme.prepare(tmp_path / "v.gr", tmp_path / "v.rch", workers=1) as hierarchy:
+        every = np.arange(hierarchy.nodes)
+        right = hierarchy.matrix(every, every)
+    damaged, whole, draw, found = tmp_path / "damaged.rch", (tmp_path / "v.rch").read_bytes(), random.Random(7), 0
+    for _ in range(600):
+        place = draw.randrange(24, len(whole))
+        damaged.write_bytes(whole[:place] + bytes([whole[place] ^ 1 << draw.randrange(8)]) + whole[place + 1 :])
+        try:
+            with domethyme.Hierarchy(damaged) as hierarchy:
+                is_right = np.array_equal(hierarchy.matrix(every, every), right)
+        except domethyme.DomethymeError:
+            continue
+        if not is_right:
+            found += 1
+            with pytest.raises(domethyme.WrongHierarchy, match=FOREIGN):
+                domethyme.Hierarchy(damaged, network=tmp_path / "v")
+    assert found > 0
 
 
-    def test_pairs_of_another_vehicle(self):
-        """Of a network with as many nodes and arcs: route_many sees it by the file that lies beside the hierarchy."""
-        self.write("slow.csv", ARCS.replace("a,b,100", "a,b,101"))
-        self.run_tool("to_network", "nodes.csv", "slow.csv", "slow")
-        for name in ("slow", "net"):
-            self.run_tool("nearest", name, "trips.csv", "-o", f"{name}.pairs")
-        self.write("slow.pairs", (self.folder / "slow.pairs").read_text() + "c another comment\n")
-        self.write("older.pairs", "c network slow: 3 nodes, 5 arcs\np aux sp p2p 1\nq 1 3\n")
-        says = "slow.pairs: is of the network slow, and net.net has other arcs: run `nearest` again"
-        self.assert_refused("route_many", "net.rch", "slow.pairs", "out", says=says)
-        for name in ("net", "older"):  # (the older ones don't say of which arcs they are)
-            self.run_tool("route_many", "net.rch", f"{name}.pairs", "out")
-        shutil.copy(self.folder / "net.rch", self.folder / "alone.rch")
-        self.assert_refused("route_many", "alone.rch", "slow.pairs", "out", "--network", "net", says=says)
+@pytest.mark.parametrize("file, text, nodes", [
+    ("t.nodes.csv", "node,osm,lon,lat,ends\n1,7,0,0,\n2,8,0.001,0,\n", 2),
+    ("x.co", "p aux sp co 4\nv 1 0 0\nv 2 1000 0\nv 3 2000 0\nv 4 3000 0\n", 4),
+])
+def test_nodes_without_arcs(tmp_path, file, text, nodes):
+    (tmp_path / file).write_text(text)
+    name, path = file.removesuffix(".nodes.csv"), f"{made(tmp_path, 'net')}.rch"
+    with pytest.raises(domethyme.WrongHierarchy, match=f"{FOREIGN} .*{name}: it has 3 nodes, and the network {nodes}"):
+        domethyme.Hierarchy(path, network=tmp_path / name)
 
-    def test_keys_of_another_node(self):
-        """A list of keys that has a key of the network's at another node."""
-        for keys, says in ((["b", "a", "c"], "key 'b' names node 0 here, and node 1 in .*net.net"), (["x", "y", "c"], None)):
-            with contextlib.nullcontext() if says is None else self.assertRaisesRegex(ValueError, says):
-                domethyme.Hierarchy(self.folder / "net.rch", keys=keys, network=self.folder / "net").close()
-        domethyme.Hierarchy(self.folder / "net.rch", keys=["b", "a", "c"]).close()
-        self.assertEqual([*domethyme.open(self.folder / "net").keys], ["a", "b", "c"])
-        domethyme.Keys(["x", "y", "c"]).save(self.folder / "net.rch")
-        self.assertEqual([*domethyme.open(self.folder / "net").keys], ["x", "y", "c"])
-        (self.folder / "net.net").unlink()
-        alone = domethyme.open(self.folder / "net")
-        self.assertEqual(([*alone.keys], alone.network), (["x", "y", "c"], None))
+
+def test_keys_of_another_file(tmp_path):
+    firm, town, some = (tmp_path / f"{name}.rch" for name in ("firm", "town", "some"))
+    domethyme.Graph.from_keys("abc", "bca", [3, 4, 5]).prepare(firm, workers=1).close()
+    domethyme.Graph([0, 1, 2], [1, 2, 0], [7, 7, 7]).prepare(town, workers=1).close()
+    keys = domethyme.Keys.load(firm)
+    for path in (firm, shutil.copy(firm, tmp_path / "copy.rch")):
+        domethyme.Hierarchy(path, keys=keys).close()
+    for each in (keys, domethyme.Keys(keys)):
+        with pytest.raises(ValueError, match=r"the keys were saved for another file than .*town.rch: .* keys.save\(path\)"):
+            domethyme.Hierarchy(town, keys=each)
+    domethyme.Graph([0], [1], [5], nodes=3, keys=domethyme.Keys({"a": 0, "b": 1})).prepare(some, workers=1).close()
+    keys.save(town)
+    for path, of, length, last in ((some, domethyme.Keys.load(some), 5, None), (town, keys, 7, "c")):
+        with domethyme.Hierarchy(path, keys=of) as hierarchy:
+            assert (hierarchy.length("a", "b"), hierarchy.keys.key(2)) == (length, last)
+
+
+@pytest.fixture
+def net(tmp_path, monkeypatch):
+    """A working folder with a network, its hierarchy, and a trip from the first node to the last."""
+    monkeypatch.chdir(tmp_path)
+    (tmp_path / "trips.csv").write_text("from_lon,from_lat,to_lon,to_lat\n0,0,0.002,0\n")
+    return made(tmp_path, "net")
+
+
+def test_a_hierarchy_that_is_older(net):
+    again = "to_network", "net-nodes.csv", "net-arcs.csv", "net"
+    says = "net.rch is older than net.gr: run `routecli prepare --order balanced net.gr net.rch` again\n"
+    assert f"to_network: {says}" in run_tool(*again)[1]
+    domethyme.prepare("net.gr", "net.rch", workers=1).close()
+    assert f"osm_to_gr: {says}" in run_tool("osm_to_gr", VILLAGE, "net")[1]
+    for later, is_older in ((0, False), (1, True)):  # (a nanosecond)
+        for name, stamp in (("net.rch", 10**18), ("net.gr", 10**18 + later)):
+            os.utime(name, ns=(stamp, stamp))
+        assert (belonging.older_hierarchy("net") is not None) == is_older
+    os.unlink("net.rch")
+    assert "older" not in run_tool(*again)[1]
+
+
+def test_pairs_name_their_network(net):
+    pairs, checksum = run_tool("nearest", "net", "trips.csv", "--hierarchy", "net.rch")[0], net_file.read("net.net").checksum
+    assert pairs == f"c network net: 3 nodes, 5 arcs, checksum {checksum}\np aux sp p2p 1\nq 1 3\n"
+    assert belonging.Origin.of(pairs.splitlines(True)[0].encode()) == ("net", 3, 5, checksum)
+    for origin in (("net", 3, 5, None), ("net", 3, None, None), ("a: 5 nodes, b", 0, 0, None), ("out/\xe9", 7, 9, "0" * 8)):
+        assert belonging.Origin.of(f"c {belonging.Origin(*origin).comment}\r\n".encode()) == origin
+    assert belonging.Origin("a\nb \udcff", 3).comment == "network a b \ufffd: 3 nodes"
+    for line in (b"c network", b"c network net: x nodes", b"c net: 3 nodes", b"q 1 2"):
+        assert belonging.Origin.of(line) is None
+
+
+def test_tools_compare(net):
+    run_tool("nearest", "net", "trips.csv", "-o", "pairs")
+    with open("answers", "wb") as file:
+        subprocess.run([domethyme.find_program(), "route", "net.rch", "pairs"], check=True, stdout=file)
+    calls = [("nearest", "net", "trips.csv", "--hierarchy", "net.rch"), ("to_geojson", "net", "answers", "--hierarchy", "net.rch"),
+             ("route_many", "net.rch", "pairs", "out", "--network", "net")]
+    for words in calls:
+        run_tool(*words)
+    with pytest.raises(ToolError, match="OUT and net.net are one file"):
+        run_tool("route_many", "net.rch", "pairs", "net.net", "--network", "net")
+    os.unlink("out")
+    made(net.parent, "net", ARCS.replace("a,b,100", "a,b,99"), is_prepared=False)
+    says = f"net.rch: {FOREIGN} net.net: from node 1 to node 2 it has 100, where the least arc weighs 99"
+    for words, more in itertools.product(calls, ((), ("--compare-all",))):
+        with pytest.raises(domethyme.WrongHierarchy, match=says):
+            run_tool(*words, *more)
+    made(net.parent, "net", nodes=NODES + "d,0.003,0\n", is_prepared=False)
+    run_tool("nearest", "net", "trips.csv", "-o", "pairs")
+    os.unlink("net.net")
+    with pytest.raises(domethyme.NetworkError, match="pairs: is of the network net with 4 nodes, and net.rch has 3"):
+        run_tool("route_many", "net.rch", "pairs", "out")
+    assert not os.path.exists("out")
+
+
+def test_pairs_of_another_vehicle(net):
+    """Of a network with as many nodes and arcs: route_many sees it by the file that lies beside the hierarchy."""
+    made(net.parent, "slow", ARCS.replace("a,b,100", "a,b,101"), is_prepared=False)
+    for name, more in (("slow", "c another comment\n"), ("net", "")):
+        pathlib.Path(f"{name}.pairs").write_text(run_tool("nearest", name, "trips.csv")[0] + more)
+    pathlib.Path("older.pairs").write_text("c network slow: 3 nodes, 5 arcs\np aux sp p2p 1\nq 1 3\n")
+    for name in ("net", "older"):  # (the older ones don't say of which arcs they are)
+        run_tool("route_many", "net.rch", f"{name}.pairs", "out")
+    shutil.copy("net.rch", "alone.rch")
+    says = "slow.pairs: is of the network slow, and net.net has other arcs: run `nearest` again"
+    for words in (["net.rch", "slow.pairs", "new"], ["alone.rch", "slow.pairs", "new", "--network", "net"]):
+        with pytest.raises(domethyme.NetworkError, match=says):
+            run_tool("route_many", *words)
+
+
+def test_keys_of_another_node(net):
+    """A list of keys that has a key of the network's at another node."""
+    with pytest.raises(ValueError, match="key 'b' names node 0 here, and node 1 in .*net.net"):
+        domethyme.Hierarchy("net.rch", keys=["b", "a", "c"], network=net)
+    domethyme.Hierarchy("net.rch", keys=["x", "y", "c"], network=net).close()
+    domethyme.Hierarchy("net.rch", keys=["b", "a", "c"]).close()
+    assert [*domethyme.open("net").keys] == ["a", "b", "c"]
+    domethyme.Keys(["x", "y", "c"]).save("net.rch")
+    assert [*domethyme.open("net").keys] == ["x", "y", "c"]
+    os.unlink("net.net")
+    alone = domethyme.open("net")
+    assert ([*alone.keys], alone.network) == (["x", "y", "c"], None)
 
 
 class ServiceTests(ServiceCase):
@@ -274,14 +267,17 @@ class ServiceTests(ServiceCase):
 
 
 def test_what_the_service_opens(tmp_path, caplog):
-    """With --compare-all all links are compared. A hierarchy that changes meanwhile is refused, and a network with another byte."""
+    """With --compare-all all links are compared, and by the package if asked, of what was pickled too. A hierarchy that changes
+    meanwhile is refused, and a network with another byte."""
     write_network(one_road((0.0, 0.0), (0.001, 0.0)), tmp_path / "v")
     paths, network = DatasetPaths(str(tmp_path / "v.rch"), str(tmp_path / "v")), tmp_path / "v.net"
     with unittest.mock.patch.object(belonging, "MAX_COMPARED", 0):
         open_dataset(paths._replace(compare_all=True))
+        pickle.loads(pickle.dumps(domethyme.Hierarchy(paths.hierarchy, network=paths.network, compare_all=True)))
         assert not caplog.messages
         open_dataset(paths)
-        assert "of its 2 links were compared" in caplog.text
+        domethyme.Hierarchy(paths.hierarchy, network=paths.network)
+        assert [" of its 2 links were compared" in message for message in caplog.messages] == [True, True]
     with unittest.mock.patch.object(belonging, "compare", lambda *_: os.utime(paths.hierarchy)):
         with pytest.raises(StartupError, match="v.rch: has changed"):
             open_dataset(paths)
@@ -295,15 +291,14 @@ def test_what_the_service_opens(tmp_path, caplog):
 PLACES = "name,lon,lat\nc,0.002,0\na,0,0\n"
 TRIPS = "from_lon,from_lat,to_lon,to_lat\n0.002,0,0,0\n"
 CALLS = [
-    (nearest, ["net", "trips.csv", "--hierarchy", "net.rch"]), (nearest, ["net", "trips.csv", "--hierarchy", "net.rch", "--on-roads"]),
-    (to_geojson, ["net", "answers", "--hierarchy", "net.rch"]), (table, ["net", "net.rch", "places.csv", "places.csv"]),
-    (table, ["net", "net.rch", "places.csv", "places.csv", "--on-roads"]), (reach, ["net", "net.rch", "places.csv", "--minutes", "0.001"]),
-    (match, ["net", "net.rch", "places.csv"]),
+    *(f"nearest net trips.csv --hierarchy net.rch{more}" for more in ("", " --on-roads")), "to_geojson net answers --hierarchy net.rch",
+    *(f"table net net.rch places.csv places.csv{more}" for more in ("", " --on-roads")),
+    "reach net net.rch places.csv --minutes 0.001", "match net net.rch places.csv",
 ]
 
 
-@pytest.mark.parametrize("tool, words", CALLS, ids=[" ".join(words) for _, words in CALLS])
-def test_tools_use_what_they_have_compared(tmp_path, monkeypatch, capsys, caplog, tool, words):
+@pytest.mark.parametrize("words", CALLS)
+def test_tools_use_what_they_have_compared(tmp_path, monkeypatch, caplog, words):
     """A network that takes the name of the one that was compared, a moment later, changes nothing; all links are compared if asked."""
     monkeypatch.chdir(tmp_path)
     monkeypatch.setattr(belonging, "MAX_COMPARED", 0)
@@ -312,7 +307,7 @@ def test_tools_use_what_they_have_compared(tmp_path, monkeypatch, capsys, caplog
     (tmp_path / "a.csv").write_text(ARCS.replace("weight", "seconds").replace("00", "").replace("c,b,1", "c,b,3"))
     (tmp_path / "swapped.csv").write_text("node,lon,lat\nc,0.002,0\nb,0.001,0\na,0,0\n")
     for nodes, name in (("n.csv", "net"), ("swapped.csv", "new")):
-        subprocess.run([TOOLS / "to_network", nodes, "a.csv", name], check=True, capture_output=True)
+        run_tool("to_network", nodes, "a.csv", name)
     domethyme.prepare("net.gr", "net.rch", workers=1).close()
     compare, printed = belonging.compare, []
 
@@ -323,8 +318,6 @@ def test_tools_use_what_they_have_compared(tmp_path, monkeypatch, capsys, caplog
 
     monkeypatch.setattr(belonging, "compare", replacing)
     for more in (["--compare-all"], []):
-        monkeypatch.setattr(sys, "argv", [tool.__name__.rpartition(".")[2], *words, *more])
-        tool.main()
+        printed.append(run_tool(*words.split(), *more)[0])
         assert ("--compare-all" in caplog.text) == (more == [])
-        printed.append(capsys.readouterr().out)
     assert printed[0] == printed[1] != "" and not (tmp_path / "new.net").exists()

@@ -1,16 +1,13 @@
 """Old words of public names still work for one version, and a warning, or a line of a tool, says what they are now."""
-import os
-import subprocess
-
 import pandas
 import pytest
-from tool_case import TOOLS, VILLAGE
+from draws import run_tool
+from tool_case import VILLAGE
 
 import domethyme
 import domethyme.errors
 from domethyme.deprecated import current_options
 
-SQUARE = [0, 1, 2, 3], [1, 2, 3, 0], [3, 4, 5, 6]
 FRAME = pandas.DataFrame({"from": ["a", "b"], "to": ["b", "a"], "weight": [1, 2]})
 
 
@@ -25,17 +22,13 @@ def hierarchy(tmp_path_factory):
 def village(tmp_path_factory):
     """A folder with the village's network v, made with two options by their old words, what the tool printed, and files for tools."""
     folder = tmp_path_factory.mktemp("village")
-
-    def run(*words):
-        return subprocess.run(words, cwd=folder, capture_output=True, text=True, check=True)
-
-    said = run(TOOLS / "osm_to_gr", VILLAGE, "v", "--tables", "--islands", "--free-turns").stderr
-    domethyme.prepare(folder / "v.gr", folder / "v.rch", workers=1).close()
-    for name, text in (("trips.csv", "trip,from_lon,from_lat,to_lon,to_lat\none,0,0,0.002,0\n"), ("places.csv", "lon,lat\n0,0\n0.002,0\n"),
-                       ("pairs", "p aux sp p2p 1\nq 1 2\n")):
+    said = run_tool("osm_to_gr", VILLAGE, folder / "v", "--tables", "--islands", "--free-turns")[1]
+    with domethyme.prepare(folder / "v.gr", folder / "v.rch", workers=1) as hierarchy:
+        answers = f"r 1 2 {hierarchy.length(0, 1)} 1 1 2\n"
+    for name, text in (("trips.csv", "trip,from_lon,from_lat,to_lon,to_lat\none,0,0,0.002,0\n"), ("answers", answers),
+                       ("places.csv", "lon,lat\n0,0\n0.002,0\n"), ("pairs", "p aux sp p2p 1\nq 1 2\n")):
         (folder / name).write_text(text)
-    (folder / "answers").write_text(run(os.environ["ROUTECLI"], "route", "v.rch", "pairs").stdout)
-    run(TOOLS / "to_geojson", "v", "answers", "-o", "routes.geojson")
+    run_tool("to_geojson", folder / "v", folder / "answers", "-o", folder / "routes.geojson")
     return folder, said
 
 
@@ -91,7 +84,7 @@ def test_others(hierarchy, tmp_path):
     for module in (domethyme, domethyme.errors):
         with pytest.raises(AttributeError, match="no_such_name"):
             module.no_such_name
-    domethyme.write_graph(tmp_path / "square.gr", *SQUARE)
+    domethyme.write_graph(tmp_path / "square.gr", [0, 1, 2, 3], [1, 2, 3, 0], [3, 4, 5, 6])
     with pytest.warns(DeprecationWarning, match="switch_order_after"):
         with domethyme.prepare(tmp_path / "square.gr", tmp_path / "square.rch", workers=1, stint=2) as prepared:
             assert prepared.length(0, 3) == 12
@@ -110,17 +103,15 @@ OLD_OPTIONS = [
 
 
 @pytest.mark.parametrize("words, line", OLD_OPTIONS, ids=[words for words, _ in OLD_OPTIONS])
-def test_options(village, words, line):
+def test_options(village, monkeypatch, words, line):
+    monkeypatch.chdir(village[0])
     tool, *words = words.split()
-    ended = subprocess.run([TOOLS / tool, *words], cwd=village[0], capture_output=True, text=True)
-    assert ended.returncode == 0, ended.stderr
-    assert f"{tool}: {line}; the old word goes with the next version" in ended.stderr.splitlines()
+    assert f"{tool}: {line}; the old word goes with the next version" in run_tool(tool, *words)[1].splitlines()
 
 
-def test_options_that_have_another_line(village):
-    words = [TOOLS / "nearest", "v", "places.csv", "--matrix"]
-    ended = subprocess.run(words, cwd=village[0], capture_output=True, text=True)
-    assert (ended.returncode, ended.stdout.count("\nq ")) == (0, 4)
-    assert ended.stderr == "nearest: --matrix goes with the next version: table makes tables of lengths\n"
+def test_options_that_have_another_line(village, monkeypatch):
+    monkeypatch.chdir(village[0])
+    pairs, said = run_tool("nearest", "v", "places.csv", "--matrix")
+    assert (pairs.count("\nq "), said) == (4, "nearest: --matrix goes with the next version: table makes tables of lengths\n")
     for old, new in (("--islands", "--keep-islands"), ("--free-turns", "--ignore-turn-restrictions")):
         assert f"osm_to_gr: {old} is now {new}; the old word goes with the next version" in village[1].splitlines()

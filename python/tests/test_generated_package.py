@@ -59,12 +59,13 @@ def test_lengths_routes_and_tables(data: Any) -> None:
         asked = Asked(made, pathlib.Path(folder), kind, data.draw(st.sampled_from(NUMBERS)))
         nodes = st.sampled_from(range(len(asked.keys)))
         with asked.hierarchy:
-            pairs = data.draw(st.lists(st.tuples(nodes, nodes), min_size=1, max_size=5))
+            pairs = data.draw(st.lists(st.tuples(nodes, nodes), max_size=5))
             has_arrays = kind in ("none", "texts", "numbers")  # (others can't be in an array of numpy)
-            check_pairs(asked, pairs, data.draw(st.sampled_from(["list", "array", *FRAMES])) if has_arrays else "list")
+            of_pairs = ["list", "array", *FRAMES, *["index"] * (kind != "none")]
+            check_pairs(asked, pairs, data.draw(st.sampled_from(of_pairs)) if has_arrays else "list")
             of_pandas = ["series", "index"] if has_arrays or kind == "pairs" else []
             forms = [data.draw(st.sampled_from(["list", "iterator", *of_pandas, *["array"] * has_arrays])) for _ in range(2)]
-            sides = [data.draw(st.lists(nodes, min_size=1, max_size=6)) for _ in range(2)]
+            sides = [data.draw(st.lists(nodes, max_size=6)) for _ in range(2)]
             check_table(asked, *sides, forms, data.draw(st.sampled_from([None, None, -1, math.inf])))
             added = st.one_of(st.just(0), st.integers(0, 50_000), st.just((1 << 32) - 1))
             starts, ends = (data.draw(st.dictionaries(nodes, added, min_size=1, max_size=4)) for _ in range(2))
@@ -82,6 +83,8 @@ def check_pairs(asked: Asked, pairs: list[tuple[int, int]], form: str) -> None:
     if any(isinstance(key, tuple) for key in asked.keys):
         return
     given: Any = np.array(by_key) if form == "array" else by_key
+    if form == "index":
+        given = pandas.Index(by_key, dtype=object, tupleize_cols=False)
     if form in FRAMES:
         index = [7 * row for row in range(len(pairs))]
         given = pandas.DataFrame([(*each, 1) for each in by_key], columns=[*FRAMES[form], "other"], index=index)
@@ -97,10 +100,14 @@ def check_pairs(asked: Asked, pairs: list[tuple[int, int]], form: str) -> None:
     assert shown == [[*pair, *figures] for pair, *figures in zip(by_key, wanted, arcs)]
     assert [feature["geometry"] is None for feature in features] == [length is None for length in wanted]
     frame = routes.to_frame()
-    columns = [*zip(*by_key), wanted, arcs]
+    columns = [[pair[0] for pair in by_key], [pair[1] for pair in by_key], wanted, arcs]
     assert [[None if value is pandas.NA else value for value in frame[name]] for name in frame] == [*map(list, columns)]
     if form in FRAMES:
         assert lengths.index.tolist() == frame.index.tolist() == index
+    for rows in (slice(1, 3), slice(None, None, -2), slice(4, 9)):
+        part, same = routes[rows], asked.hierarchy.routes(given[rows])
+        assert part == same and part.to_frame().equals(same.to_frame()) and [*map(list, part)] == [*map(list, routes)][rows]
+    assert [list(routes[row - len(pairs)]) for row in range(len(pairs))] == [*map(list, routes)]
 
 
 def check_route(asked: Asked, route: Any, pair: tuple[Any, Any], length: int | None) -> None:
@@ -306,7 +313,8 @@ def check_roads(hierarchy: domethyme.Hierarchy, roads: Network, where: list[Poin
         with pytest.raises(domethyme.NoSuchNode):
             hierarchy.within(place, shape="roads", towards=towards, **{unit: values})
         return
-    found = json.loads(json.dumps(hierarchy.within(place, shape="roads", towards=towards, **{unit: np.array(values)})))["features"]
+    given: Any = np.array(values) if towards else iter(values)
+    found = json.loads(json.dumps(hierarchy.within(place, shape="roads", towards=towards, **{unit: given})))["features"]
     for feature, value in zip(found, reversed(values), strict=True):
         said, geometry = feature["properties"], feature["geometry"]
         assert (said["contour"], said["metric"]) == (value, {"minutes": "time", "metres": "distance"}[unit])
