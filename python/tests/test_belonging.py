@@ -9,7 +9,6 @@ import random
 import re
 import shutil
 import struct
-import subprocess
 import unittest.mock
 
 import numpy as np
@@ -196,28 +195,21 @@ def test_pairs_name_their_network(net):
         assert belonging.Origin.of(line) is None
 
 
-def test_tools_compare(net):
+def test_route_many_compares(net):
     run_tool("nearest", "net", "trips.csv", "-o", "pairs")
-    with open("answers", "wb") as file:
-        subprocess.run([domethyme.find_program(), "route", "net.rch", "pairs"], check=True, stdout=file)
-    calls = [("nearest", "net", "trips.csv", "--hierarchy", "net.rch"), ("to_geojson", "net", "answers", "--hierarchy", "net.rch"),
-             ("route_many", "net.rch", "pairs", "out", "--network", "net")]
-    for words in calls:
-        run_tool(*words)
+    run_tool("route_many", "net.rch", "pairs", "out", "--network", "net")
     with pytest.raises(ToolError, match="OUT and net.net are one file"):
         run_tool("route_many", "net.rch", "pairs", "net.net", "--network", "net")
-    os.unlink("out")
     made(net.parent, "net", ARCS.replace("a,b,100", "a,b,99"), is_prepared=False)
-    says = f"net.rch: {FOREIGN} net.net: from node 1 to node 2 it has 100, where the least arc weighs 99"
-    for words, more in itertools.product(calls, ((), ("--compare-all",))):
-        with pytest.raises(domethyme.WrongHierarchy, match=says):
-            run_tool(*words, *more)
+    for more in ((), ("--compare-all",)):
+        with pytest.raises(domethyme.WrongHierarchy, match=f"net.rch: {FOREIGN} net.net: from node 1 to node 2 it has 100, where"):
+            run_tool("route_many", "net.rch", "pairs", "new", "--network", "net", *more)
     made(net.parent, "net", nodes=NODES + "d,0.003,0\n", is_prepared=False)
     run_tool("nearest", "net", "trips.csv", "-o", "pairs")
     os.unlink("net.net")
     with pytest.raises(domethyme.NetworkError, match="pairs: is of the network net with 4 nodes, and net.rch has 3"):
-        run_tool("route_many", "net.rch", "pairs", "out")
-    assert not os.path.exists("out")
+        run_tool("route_many", "net.rch", "pairs", "new")
+    assert os.path.exists("out") and not os.path.exists("new")
 
 
 def test_pairs_of_another_vehicle(net):
@@ -291,25 +283,23 @@ def test_what_the_service_opens(tmp_path, caplog):
 PLACES = "name,lon,lat\nc,0.002,0\na,0,0\n"
 TRIPS = "from_lon,from_lat,to_lon,to_lat\n0.002,0,0,0\n"
 CALLS = [
-    *(f"nearest net trips.csv --hierarchy net.rch{more}" for more in ("", " --on-roads")), "to_geojson net answers --hierarchy net.rch",
-    *(f"table net net.rch places.csv places.csv{more}" for more in ("", " --on-roads")),
-    "reach net net.rch places.csv --minutes 0.001", "match net net.rch places.csv",
+    "nearest net trips.csv --hierarchy net.rch", "nearest net trips.csv --hierarchy net.rch --on-roads",
+    "table net net.rch places.csv places.csv", "table net net.rch places.csv places.csv --on-roads",
+    "to_geojson net answers --hierarchy net.rch", "reach net net.rch places.csv --minutes 0.001", "match net net.rch places.csv",
 ]
 
 
 @pytest.mark.parametrize("words", CALLS)
 def test_tools_use_what_they_have_compared(tmp_path, monkeypatch, caplog, words):
-    """A network that takes the name of the one that was compared, a moment later, changes nothing; all links are compared if asked."""
+    """A network that takes the name of the one that was compared, a moment later, changes nothing, and is refused the next time.
+    All links are compared if asked."""
     monkeypatch.chdir(tmp_path)
     monkeypatch.setattr(belonging, "MAX_COMPARED", 0)
-    for name, text in (("places.csv", PLACES), ("trips.csv", TRIPS), ("answers", "r 3 1 4000 2 3 2 1\n"), ("n.csv", NODES)):
+    for name, text in (("places.csv", PLACES), ("trips.csv", TRIPS), ("answers", "r 3 1 4000 2 3 2 1\n")):
         (tmp_path / name).write_text(text)
-    (tmp_path / "a.csv").write_text(ARCS.replace("weight", "seconds").replace("00", "").replace("c,b,1", "c,b,3"))
-    (tmp_path / "swapped.csv").write_text("node,lon,lat\nc,0.002,0\nb,0.001,0\na,0,0\n")
-    for nodes, name in (("n.csv", "net"), ("swapped.csv", "new")):
-        run_tool("to_network", nodes, "a.csv", name)
-    domethyme.prepare("net.gr", "net.rch", workers=1).close()
-    compare, printed = belonging.compare, []
+    arcs, compare, printed = ARCS.replace("weight", "seconds").replace("00", "").replace("c,b,1", "c,b,3"), belonging.compare, []
+    made(tmp_path, "net", arcs)
+    made(tmp_path, "new", arcs, "node,lon,lat\nc,0.002,0\nb,0.001,0\na,0,0\n", False)
 
     def replacing(*arguments):
         compare(*arguments)
@@ -321,3 +311,6 @@ def test_tools_use_what_they_have_compared(tmp_path, monkeypatch, caplog, words)
         printed.append(run_tool(*words.split(), *more)[0])
         assert ("--compare-all" in caplog.text) == (more == [])
     assert printed[0] == printed[1] != "" and not (tmp_path / "new.net").exists()
+    for more in ([], ["--compare-all"]):
+        with pytest.raises(domethyme.WrongHierarchy, match=f"net.rch: {FOREIGN} net.net: from node "):
+            run_tool(*words.split(), *more)

@@ -33,17 +33,18 @@ def test_a_map_in_one_call(village, monkeypatch):
         assert domethyme.open(f"{out}.net").path == domethyme.open(f"{out}.gr").path == third.path
         assert again.keys is None and again.network.prefix == str(out)
         assert again.route(0, 5).nodes == third.route(0, 5).nodes == hierarchy.route(0, 5).nodes
-    for words, says in [({"profile": "tank"}, "no profile tank"), ({"speed": 3}, "no option speed"), ({"at_least": 1.0}, "35 of 38 nodes reach"),
-                        ({"at_least": 0.93}, "35 of 38 nodes reach one another, less than 93%"), ({"at_least": -0.1}, "isn't from 0 to 1"),
-                        ({"at_least": 1.1}, "isn't from 0 to 1"), ({"longest_arc": 1_000_001}, "isn't from 1 to 1000000"),
-                        ({"longest_arc": "250"}, "longest_arc '250' is no number"), ({"longest_arc": 0.5}, "isn't from 1 to 1000000"),
-                        ({"weight": "days"}, "'days' is none of length, time"), ({"weight": ["time"]}, r"weight \['time'\] is no text"),
-                        ({"attribution": None}, "attribution None is no text")]:
+    for option, value, says in [
+        ("profile", "tank", "no profile tank"), ("speed", 3, "no option speed"), ("at_least", 1.0, "35 of 38 nodes reach"),
+        ("at_least", 0.93, "35 of 38 nodes reach one another, less than 93%"), ("weight", "days", "'days' is none of length, time"),
+        *(("at_least", value, "isn't from 0 to 1") for value in (-0.1, 1.1)), ("longest_arc", "250", "longest_arc '250' is no number"),
+        *(("longest_arc", value, "isn't from 1 to 1000000") for value in (1_000_001, 0.5)),
+        ("weight", ["time"], r"weight \['time'\] is no text"), ("attribution", None, "attribution None is no text"),
+    ]:
         with pytest.raises((domethyme.MapError, ValueError), match=says):
-            domethyme.from_osm(VILLAGE, out.parent / "w", **words)
-    for folder in (out.parent, f"{out.parent}/w/", ""):
-        with pytest.raises(ValueError, match="is a folder, or empty"):
-            domethyme.from_osm(VILLAGE, folder)
+            domethyme.from_osm(VILLAGE, out.parent / "w", **{option: value})
+    for place in (out.parent, f"{out.parent}/w/", "", *(f"{out.parent}/w.{ending}" for ending in ("gr", "net", "rch"))):
+        with pytest.raises(ValueError, match=r"is a folder, or empty|as .*/w, and '.*/w\.(gr|net|rch)' the name of one"):
+            domethyme.from_osm(VILLAGE, place)
     assert not list(out.parent.glob("w*"))
     with pytest.raises(domethyme.ProgramError, match="--order"):
         domethyme.from_osm(VILLAGE, out.parent / "w", order="sideways")
@@ -60,16 +61,14 @@ exec {domethyme.find_program()} "$@"
 
 
 def test_progress_of_what_takes_long(tmp_path):
-    rows = np.arange(60_000)
-    told = []
-    with domethyme.prepare(domethyme.Graph(rows, (rows + 1) % 60_000, rows % 7 + 1), tmp_path / "ring.rch", progress=lambda *now: told.append(now)) as ring:
+    rows, told, parts = np.arange(60_000), [], []
+    graph = domethyme.Graph(rows, (rows + 1) % 60_000, rows % 7 + 1)
+    with graph.prepare(tmp_path / "ring.rch", progress=lambda *now: told.append(now)) as ring:
         assert all(what == "prepare" and done <= 60_000 == total for what, done, total in told)
-        parts = []
-        table = ring.matrix(rows[:1000], rows[:300], progress=lambda *now: parts.append(now))
+        ring.matrix(rows[:1000], rows[:300], progress=lambda *now: parts.append(now))
         assert parts[-1] == ("matrix", 1000, 1000) and [done for _, done, _ in parts] == sorted({done for _, done, _ in parts})
-        assert (table == ring.matrix(rows[:1000], rows[:300])).all()
+    (tmp_path / "bad.gr").write_text("p sp 2 5\na 1 2 3\n")
     with pytest.raises(domethyme.GraphError, match="TooManyArcs|ArcCount"):
-        (tmp_path / "bad.gr").write_text("p sp 2 5\na 1 2 3\n")
         domethyme.prepare(tmp_path / "bad.gr", tmp_path / "bad.rch", progress=lambda *now: None)
 
 
@@ -130,9 +129,11 @@ def test_places_of_geopandas(village):
     assert lines.geometry.geom_equals_exact(geopandas.GeoSeries.from_wkt(arcs.pop("WKT"), crs=4326), 0).all() and lines.crs == 4326
     assert lines.drop(columns="geometry").equals(arcs)
     far = hierarchy.nearest(0.02, 0.005)[0]
-    routes = hierarchy.routes(pd.DataFrame({"from": [0, 0], "to": [5, far]}, index=["near", "far"]))
+    pairs = geopandas.GeoDataFrame({"from": [0, 0], "to": [5, far]}, geometry=points[:2], index=["near", "far"])
+    routes = hierarchy.routes(pairs)
     frame, features = routes.to_geodataframe(), routes.geojson()["features"]
-    assert frame.index.tolist() == ["near", "far"] and frame.crs == 4326 and frame.geometry["far"] is None
+    assert hierarchy.lengths(pairs).index.tolist() == frame.index.tolist() == ["near", "far"]
+    assert frame.crs == 4326 and frame.geometry["far"] is None
     for name in ("to", "length", "seconds", "metres"):
         assert frame.loc["near", name] == features[0]["properties"][name]
     assert json.loads(json.dumps(frame.geometry["near"].__geo_interface__)) == features[0]["geometry"]
@@ -166,6 +167,11 @@ PLACE = 47.1, 9.5
     (lambda h: h.nearest(0.0, 60), "m away$"), (lambda h: h.network.nearest(0, 60), "no node within 1000 m"),
     (lambda h: h.network.geojson(None), "there is no route"), (lambda h: domethyme.Hierarchy(b"x"), "takes the path of a file, and no bytes"),
     (lambda h: domethyme.Hierarchy(h.path, keys=h.network), r"is it network.keys\(\)"),
+    *((lambda h, net=net: domethyme.Hierarchy(h.path, network=net), "network is a Network, or the prefix") for net in (5, b"v")),
+    *((lambda h, sums=sums: h.matrix([0], sums=sums), "sums has to be") for sums in ("metres", ["km"], 5)),
+    (lambda h: domethyme.Hierarchy(h.path).matrix([0], sums=["metres"]), "has no network"),
+    (lambda h: h.matrix([0], np.array([9.5])), "targets .* are float64: table.sources, targets. takes places"),
+    (lambda h: h.within(PLACE, np.array(5)), "minutes are a list"),
     (lambda h: domethyme.Graph.from_keys([1], [2], [5e9]), "scale=1000"), (lambda h: domethyme.open("none"), "none.gr none.rch` makes it"),
     (lambda h: domethyme.Graph.from_frame(pd.DataFrame({"a": [1], "b": [2]}), "a", "b"), "no column weight; it has a, b"),
     (lambda h: domethyme.from_osm("none.osm", "none"), "none.osm: No such file"),

@@ -1,4 +1,5 @@
 """The package on drawn networks, with and without keys: lengths, routes, tables, what is reached, nodes and frames."""
+import itertools
 import json
 import math
 import pathlib
@@ -86,8 +87,9 @@ def check_pairs(asked: Asked, pairs: list[tuple[int, int]], form: str) -> None:
     if form == "index":
         given = pandas.Index(by_key, dtype=object, tupleize_cols=False)
     if form in FRAMES:
-        index = [7 * row for row in range(len(pairs))]
-        given = pandas.DataFrame([(*each, 1) for each in by_key], columns=[*FRAMES[form], "other"], index=index)
+        index, columns = [7 * row for row in range(len(pairs))], [*FRAMES.values()][[*FRAMES].index(form) :]
+        rows = [[*each, *each[::-1] * (len(columns) - 1)] for each in by_key]  # (of several names the first ones count)
+        given = pandas.DataFrame(rows, columns=[*itertools.chain(*columns)], index=index)
     filled, lengths = [-1 if length is None else length for length in wanted], asked.hierarchy.lengths(given)
     routes = asked.hierarchy.routes(given)
     assert (lengths.fillna(-1) if form in FRAMES else lengths).tolist() == filled == routes.lengths.tolist()
@@ -103,7 +105,7 @@ def check_pairs(asked: Asked, pairs: list[tuple[int, int]], form: str) -> None:
     columns = [[pair[0] for pair in by_key], [pair[1] for pair in by_key], wanted, arcs]
     assert [[None if value is pandas.NA else value for value in frame[name]] for name in frame] == [*map(list, columns)]
     if form in FRAMES:
-        assert lengths.index.tolist() == frame.index.tolist() == index
+        assert lengths.index.tolist() == frame.index.tolist() == index and lengths.name == "length"
     for rows in (slice(1, 3), slice(None, None, -2), slice(4, 9)):
         part, same = routes[rows], asked.hierarchy.routes(given[rows])
         assert part == same and part.to_frame().equals(same.to_frame()) and [*map(list, part)] == [*map(list, routes)][rows]
@@ -151,13 +153,14 @@ def check_line(asked: Asked, route: Any) -> None:
 
 def check_table(asked: Asked, sources: list[int], targets: list[int], forms: list[str], missing: float | None) -> None:
     """Objects of pandas and lists of keys give a frame, which has its axes, and arrays an array."""
-    makes: Any = {"list": list, "iterator": iter, "array": np.array, "series": pandas.Series, "index": pandas.Index}
+    makes: Any = {"list": list, "iterator": iter, "array": np.array, "index": pandas.Index}
+    makes["series"] = lambda side: pandas.Series(side, dtype=None if side else object)
     rows, columns = ([asked.keys[node] for node in side] for side in (sources, targets))
     found = asked.hierarchy.matrix(*(makes[form](side) for form, side in zip(forms, (rows, columns))), missing=missing)
     is_frame = any(form in ("series", "index") or form != "array" and asked.hierarchy.keys is not None for form in forms)
     assert isinstance(found, pandas.DataFrame) == is_frame
     if is_frame:
-        assert (found.index.tolist(), found.columns.tolist()) == (rows, columns)
+        assert [axis.tolist() for axis in found.axes] == [rows, columns] and all(axis.nlevels == 1 for axis in found.axes)
     stand = missing if missing is not None else None if is_frame else -1
     wanted = [[asked.lengths[source].get(target, stand) for target in targets] for source in sources]
     cells = found.to_numpy(object).tolist() if is_frame else found.tolist()
@@ -201,7 +204,7 @@ def check_reach(asked: Asked, starts: dict[int, int], limit: int | None, towards
     expected = [wanted[node] if wanted.get(node, math.inf) <= most else -1 for node in range(len(asked.keys))]
     values = found.tolist() if isinstance(found, np.ndarray) else found.fillna(-1).tolist()
     assert values == expected
-    assert isinstance(found, np.ndarray) or found.index.tolist() == asked.keys
+    assert isinstance(found, np.ndarray) or (found.index.tolist(), found.index.nlevels) == (asked.keys, 1)
     summed = asked.hierarchy.reach({asked.keys[node]: added for node, added in starts.items()}, limit, towards, sums=["metres"])
     assert [*summed] == ["length", "metres"] and [*map(type, summed.values())] == [type(found)] * 2
     assert domethyme.unscaled(summed["length"]).tolist() == domethyme.unscaled(found).tolist()

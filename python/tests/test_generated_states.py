@@ -6,6 +6,7 @@ import pathlib
 import pickle
 import shutil
 import tempfile
+from collections.abc import Callable
 from typing import Any
 
 import pytest
@@ -23,8 +24,18 @@ NODES, VERSIONS = 6, 3
 FILES = ("gr", "net", "rch")
 # The question, and a node or two, or a place near a node. Some need nothing open, and some read the file again, once.
 Question = tuple[str, int, int]
-KINDS = ("length", "metres", "nearest", "reached", "lon", "none", "stay", "towards", "summed")
-QUESTIONS = st.tuples(st.sampled_from(KINDS), st.integers(0, NODES - 1), st.integers(0, NODES - 1))
+ANSWERS: dict[str, Callable[[domethyme.Hierarchy, int, int], Any]] = {
+    "length": lambda each, one, other: each.length(one, other),
+    "metres": lambda each, one, other: each.route(one, other).geojson()["properties"]["metres"],
+    "towards": lambda each, one, other: each.reach([other], towards=True)[one],
+    "summed": lambda each, one, other: each.reach([one], sums=["metres"])["metres"][other],
+    "none": lambda each, one, _: len([each.lengths, each.routes, each.matrix][one % 3]([])),
+    "stay": lambda each, one, _: each.directions([beside(one)] * 2).weight,
+    "nearest": lambda each, one, _: each.nearest(*beside(one))[0],
+    "lon": lambda each, one, _: float(each.network.lon[one]),
+    "reached": lambda each, one, _: metres_of(each.within(beside(one), [4000 / 60_000], shape="roads")["features"][0]["geometry"]),
+}
+QUESTIONS = st.tuples(st.sampled_from([*ANSWERS]), st.integers(0, NODES - 1), st.integers(0, NODES - 1))
 ANY_TIME, READ_AGAIN = ("nearest", "lon", "pickled"), ("towards", "summed", "pickled")
 
 
@@ -89,37 +100,9 @@ def beside(node: int) -> Point:
     return lon + 0.00003, lat + 0.00002
 
 
-def answer(hierarchy: domethyme.Hierarchy, question: Question) -> Any:
-    """The answer of an open hierarchy."""
-    what, one, other = question
-    if what == "length":
-        return hierarchy.length(one, other)
-    if what == "towards":
-        return hierarchy.reach([other], towards=True)[one]
-    if what == "summed":
-        return hierarchy.reach([one], sums=["metres"])["metres"][other]
-    if what == "none":
-        return len([hierarchy.lengths, hierarchy.routes, hierarchy.matrix][one % 3]([]))
-    if what == "stay":
-        return hierarchy.directions([beside(one)] * 2).weight
-    if what == "nearest":
-        return hierarchy.nearest(*beside(one))[0]
-    if what == "lon":
-        return float(hierarchy.network.lon[one])
-    if what == "reached":
-        (feature,) = hierarchy.within(beside(one), [4000 / 60_000], shape="roads")["features"]
-        geometry = feature["geometry"]
-        lines = [geometry["coordinates"]] if geometry["type"] == "LineString" else geometry["coordinates"]
-        return sum(along([tuple(point) for point in line])[-1] for line in lines)
-    route = hierarchy.route(one, other)
-    return hierarchy.network.geojson(route)["features"][0]["properties"]["metres"]
-
-
-def is_right(found: Any, number: int, question: Question) -> bool:
-    wanted = expected(number, question)
-    if question[0] in ("metres", "summed"):
-        return any(abs(found - each) < 0.011 for each in wanted)
-    return abs(found - wanted) <= (3 if question[0] == "reached" else 0)
+def metres_of(geometry: Any) -> float:
+    lines = [geometry["coordinates"]] if geometry["type"] == "LineString" else geometry["coordinates"]
+    return sum(along([tuple(point) for point in line])[-1] for line in lines)
 
 
 class Handle:
@@ -136,9 +119,15 @@ class Handle:
         is_late = kind in READ_AGAIN and kind not in self.read and self.generation != generation
         return domethyme.WrongHierarchy if is_late else None
 
+    def answer(self, question: Question) -> Any:
+        return ANSWERS[question[0]](self.hierarchy, *question[1:])
+
     def is_right(self, question: Question) -> bool:
         self.read.add(question[0])
-        return is_right(answer(self.hierarchy, question), self.number, question)
+        found, wanted = self.answer(question), expected(self.number, question)
+        if question[0] in ("metres", "summed"):
+            return any(abs(found - each) < 0.011 for each in wanted)
+        return abs(found - wanted) <= (3 if question[0] == "reached" else 0)
 
 
 class Files(RuleBasedStateMachine):
@@ -185,7 +174,7 @@ class Files(RuleBasedStateMachine):
     def ask(self, handle: Handle, question: Question) -> None:
         if refused := handle.refuses(question[0], self.generation):
             with pytest.raises(refused):
-                answer(handle.hierarchy, question)
+                handle.answer(question)
         else:
             assert handle.is_right(question)
 
