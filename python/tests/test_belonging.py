@@ -1,6 +1,7 @@
 """Tests that what doesn't belong together is refused: a hierarchy of another network, keys of another file, pairs of another
 network, by the package, the tools and the service."""
 import contextlib
+import functools
 import itertools
 import os
 import pathlib
@@ -77,7 +78,7 @@ def test_arcs_that_are_too_long_to_be_summed(tmp_path, metres, is_refused):
         assert hierarchy.matrix([0], [2], sums=["metres"])["metres"].tolist() == [[2 * float(metres)]]
 
 
-def test_one_weight_of_many(tmp_path, monkeypatch, caplog):
+def test_one_weight_of_many(tmp_path, caplog):
     """Of a made town with 900 nodes some arcs in turn: a weight that differs by one is found, and so are drawn ones."""
     draw, size = random.Random(1), 30
     nodes = "lon,lat\n" + "".join(f"{x / 1000},{y / 1000}\n" for y in range(size) for x in range(size))
@@ -91,25 +92,24 @@ def test_one_weight_of_many(tmp_path, monkeypatch, caplog):
 
     right = net_file.read(f"{made(tmp_path, 'town', text(), nodes)}.net")
     with open(tmp_path / "town.rch", "rb") as file:
-        size = links.Links.of(file.fileno(), "").size
-
-        def is_refused(network, most, *words):
-            monkeypatch.setattr(belonging, "MAX_COMPARED", most)
-            caplog.clear()
-            try:
+        def compare(network, most, *words):
+            with unittest.mock.patch.object(belonging, "MAX_COMPARED", most):
                 belonging.compare(file.fileno(), "town.rch", network, *words)
-            except domethyme.WrongHierarchy as error:
-                return FOREIGN in str(error)
-            return False
 
+        size = links.Links.of(file.fileno(), "").size
+        refused = functools.partial(pytest.raises, domethyme.WrongHierarchy, match=FOREIGN)
         for changed, by in itertools.product(draw.sample(range(len(arcs)), 5), (1, -1)):
             other = net_file.read(f"{made(tmp_path, 'other', text(changed, by), nodes, False)}.net")
-            with unittest.mock.patch.multiple(links, DRAWN=1, ROUNDS=1):
-                assert is_refused(other, size) and is_refused(other, 0, True)
-        assert is_refused(other, 0)
-        assert not is_refused(right, size) and not caplog.messages
+            for words in ((size,), (0, True)):
+                with unittest.mock.patch.multiple(links, DRAWN=1, ROUNDS=1), refused():
+                    compare(other, *words)
+        with refused():
+            compare(other, 0)
+        compare(right, size)
+        assert not caplog.messages
+        compare(right, size - 1)
         says = "town.rch: 5,000 of its [0-9,]+ links were compared with .*town.net: --compare-all, or compare_all=True, .*"
-        assert not is_refused(right, size - 1) and re.fullmatch(says, "".join(caplog.messages))
+        assert re.fullmatch(says, "".join(caplog.messages))
 
 
 def test_flipped_bits(tmp_path):
@@ -145,21 +145,27 @@ def test_nodes_without_arcs(tmp_path, file, text, nodes):
         domethyme.Hierarchy(path, network=tmp_path / name)
 
 
-def test_keys_of_another_file(tmp_path):
-    firm, town, some = (tmp_path / f"{name}.rch" for name in ("firm", "town", "some"))
-    domethyme.Graph.from_keys("abc", "bca", [3, 4, 5]).prepare(firm, workers=1).close()
+@pytest.mark.parametrize("names", ["abc", [("a", 1), "b", "c"]])
+def test_keys_of_another_graph(tmp_path, names):
+    """Keys of a graph, saved or not, are refused for another one's hierarchy of as many nodes, and taken for a second one of it."""
+    firm, second, town, some, copy = (tmp_path / f"{name}.rch" for name in ("firm", "second", "town", "some", "copy"))
+    graph, can_be_saved = domethyme.Graph.from_keys(names, [*names[1:], names[0]], [3, 4, 5]), isinstance(names, str)
+    for path, seed in ((firm, 1), (second, 2)):
+        graph.prepare(path, workers=1, seed=seed).close()
     domethyme.Graph([0, 1, 2], [1, 2, 0], [7, 7, 7]).prepare(town, workers=1).close()
-    keys = domethyme.Keys.load(firm)
-    for path in (firm, shutil.copy(firm, tmp_path / "copy.rch")):
-        domethyme.Hierarchy(path, keys=keys).close()
-    for each in (keys, domethyme.Keys(keys)):
+    assert os.path.exists(f"{firm}.keys") == can_be_saved
+    for keys in (graph.keys, *([domethyme.Keys.load(firm), domethyme.Keys(domethyme.Keys.load(firm))] if can_be_saved else [])):
+        for path in (firm, shutil.copy(firm, copy), *[second] * (keys is graph.keys)):
+            domethyme.Hierarchy(path, keys=keys).close()
         with pytest.raises(ValueError, match=r"the keys were saved for another file than .*town.rch: .* keys.save\(path\)"):
-            domethyme.Hierarchy(town, keys=each)
+            domethyme.Hierarchy(town, keys=keys)
+    with contextlib.nullcontext() if can_be_saved else pytest.raises(ValueError, match="str or int"):
+        keys.save(town)
+        with domethyme.Hierarchy(town, keys=keys) as hierarchy:
+            assert (hierarchy.length("a", "b"), hierarchy.keys.key(2)) == (7, "c")
     domethyme.Graph([0], [1], [5], nodes=3, keys=domethyme.Keys({"a": 0, "b": 1})).prepare(some, workers=1).close()
-    keys.save(town)
-    for path, of, length, last in ((some, domethyme.Keys.load(some), 5, None), (town, keys, 7, "c")):
-        with domethyme.Hierarchy(path, keys=of) as hierarchy:
-            assert (hierarchy.length("a", "b"), hierarchy.keys.key(2)) == (length, last)
+    with domethyme.Hierarchy(some, keys=domethyme.Keys.load(some)) as hierarchy:
+        assert (hierarchy.length("a", "b"), hierarchy.keys.key(2)) == (5, None)
 
 
 @pytest.fixture
@@ -196,35 +202,27 @@ def test_pairs_name_their_network(net):
 
 
 def test_route_many_compares(net):
-    run_tool("nearest", "net", "trips.csv", "-o", "pairs")
-    run_tool("route_many", "net.rch", "pairs", "out", "--network", "net")
-    with pytest.raises(ToolError, match="OUT and net.net are one file"):
-        run_tool("route_many", "net.rch", "pairs", "net.net", "--network", "net")
-    made(net.parent, "net", ARCS.replace("a,b,100", "a,b,99"), is_prepared=False)
-    for more in ((), ("--compare-all",)):
-        with pytest.raises(domethyme.WrongHierarchy, match=f"net.rch: {FOREIGN} net.net: from node 1 to node 2 it has 100, where"):
-            run_tool("route_many", "net.rch", "pairs", "new", "--network", "net", *more)
-    made(net.parent, "net", nodes=NODES + "d,0.003,0\n", is_prepared=False)
-    run_tool("nearest", "net", "trips.csv", "-o", "pairs")
-    os.unlink("net.net")
-    with pytest.raises(domethyme.NetworkError, match="pairs: is of the network net with 4 nodes, and net.rch has 3"):
-        run_tool("route_many", "net.rch", "pairs", "new")
-    assert os.path.exists("out") and not os.path.exists("new")
-
-
-def test_pairs_of_another_vehicle(net):
-    """Of a network with as many nodes and arcs: route_many sees it by the file that lies beside the hierarchy."""
+    """The network that is named, and that of the pairs by the file that lies beside the hierarchy: of another vehicle too."""
     made(net.parent, "slow", ARCS.replace("a,b,100", "a,b,101"), is_prepared=False)
-    for name, more in (("slow", "c another comment\n"), ("net", "")):
-        pathlib.Path(f"{name}.pairs").write_text(run_tool("nearest", name, "trips.csv")[0] + more)
+    made(net.parent, "more", nodes=NODES + "d,0.003,0\n", is_prepared=False)
+    for name in ("net", "slow", "more"):
+        run_tool("nearest", name, "trips.csv", "-o", f"{name}.pairs")
+    pathlib.Path("slow.pairs").write_text(pathlib.Path("slow.pairs").read_text() + "c another comment\n")
     pathlib.Path("older.pairs").write_text("c network slow: 3 nodes, 5 arcs\np aux sp p2p 1\nq 1 3\n")
-    for name in ("net", "older"):  # (the older ones don't say of which arcs they are)
-        run_tool("route_many", "net.rch", f"{name}.pairs", "out")
+    for words in (["net.pairs", "--network", "net"], ["net.pairs"], ["older.pairs"]):  # (which doesn't say of which arcs it is)
+        run_tool("route_many", "net.rch", words[0], "out", *words[1:])
     shutil.copy("net.rch", "alone.rch")
-    says = "slow.pairs: is of the network slow, and net.net has other arcs: run `nearest` again"
-    for words in (["net.rch", "slow.pairs", "new"], ["alone.rch", "slow.pairs", "new", "--network", "net"]):
-        with pytest.raises(domethyme.NetworkError, match=says):
+    of_slow, named = "slow.pairs: is of the network slow, and net.net has other arcs: run `nearest` again", ["--network", "slow"]
+    of_arc = f"net.rch: {FOREIGN} slow.net: from node 1 to node 2 it has 100, where the least arc weighs 101"
+    for words, says in [
+        (["net.rch", "slow.pairs", "new"], of_slow), (["alone.rch", "slow.pairs", "new", "--network", "net"], of_slow),
+        *((["net.rch", "net.pairs", "new", *named, *more], of_arc) for more in ([], ["--compare-all"])),
+        (["alone.rch", "more.pairs", "new"], "more.pairs: is of the network more with 4 nodes, and alone.rch has 3"),
+        (["net.rch", "net.pairs", "net.net", "--network", "net"], "OUT and net.net are one file"),
+    ]:
+        with pytest.raises((domethyme.WrongHierarchy, domethyme.NetworkError, ToolError), match=says):
             run_tool("route_many", *words)
+    assert not os.path.exists("new")
 
 
 def test_keys_of_another_node(net):
@@ -280,26 +278,20 @@ def test_what_the_service_opens(tmp_path, caplog):
         open_dataset(paths)
 
 
-PLACES = "name,lon,lat\nc,0.002,0\na,0,0\n"
-TRIPS = "from_lon,from_lat,to_lon,to_lat\n0.002,0,0,0\n"
-CALLS = [
+@pytest.mark.parametrize("words", [
     "nearest net trips.csv --hierarchy net.rch", "nearest net trips.csv --hierarchy net.rch --on-roads",
     "table net net.rch places.csv places.csv", "table net net.rch places.csv places.csv --on-roads",
     "to_geojson net answers --hierarchy net.rch", "reach net net.rch places.csv --minutes 0.001", "match net net.rch places.csv",
-]
-
-
-@pytest.mark.parametrize("words", CALLS)
-def test_tools_use_what_they_have_compared(tmp_path, monkeypatch, caplog, words):
+])
+def test_tools_use_what_they_have_compared(net, monkeypatch, caplog, words):
     """A network that takes the name of the one that was compared, a moment later, changes nothing, and is refused the next time.
     All links are compared if asked."""
-    monkeypatch.chdir(tmp_path)
     monkeypatch.setattr(belonging, "MAX_COMPARED", 0)
-    for name, text in (("places.csv", PLACES), ("trips.csv", TRIPS), ("answers", "r 3 1 4000 2 3 2 1\n")):
-        (tmp_path / name).write_text(text)
+    for name, text in (("places.csv", "name,lon,lat\nc,0.002,0\na,0,0\n"), ("answers", "r 3 1 4000 2 3 2 1\n")):
+        pathlib.Path(name).write_text(text)
     arcs, compare, printed = ARCS.replace("weight", "seconds").replace("00", "").replace("c,b,1", "c,b,3"), belonging.compare, []
-    made(tmp_path, "net", arcs)
-    made(tmp_path, "new", arcs, "node,lon,lat\nc,0.002,0\nb,0.001,0\na,0,0\n", False)
+    made(net.parent, "net", arcs)
+    made(net.parent, "new", arcs, "node,lon,lat\nc,0.002,0\nb,0.001,0\na,0,0\n", False)
 
     def replacing(*arguments):
         compare(*arguments)
@@ -310,7 +302,7 @@ def test_tools_use_what_they_have_compared(tmp_path, monkeypatch, caplog, words)
     for more in (["--compare-all"], []):
         printed.append(run_tool(*words.split(), *more)[0])
         assert ("--compare-all" in caplog.text) == (more == [])
-    assert printed[0] == printed[1] != "" and not (tmp_path / "new.net").exists()
+    assert printed[0] == printed[1] != "" and not os.path.exists("new.net")
     for more in ([], ["--compare-all"]):
         with pytest.raises(domethyme.WrongHierarchy, match=f"net.rch: {FOREIGN} net.net: from node "):
             run_tool(*words.split(), *more)

@@ -84,10 +84,8 @@ def test_others(hierarchy, tmp_path):
     for module in (domethyme, domethyme.errors):
         with pytest.raises(AttributeError, match="no_such_name"):
             module.no_such_name
-    domethyme.write_graph(tmp_path / "square.gr", [0, 1, 2, 3], [1, 2, 3, 0], [3, 4, 5, 6])
     with pytest.warns(DeprecationWarning, match="switch_order_after"):
-        with domethyme.prepare(tmp_path / "square.gr", tmp_path / "square.rch", workers=1, stint=2) as prepared:
-            assert prepared.length(0, 3) == 12
+        domethyme.prepare(domethyme.Graph([0, 1], [1, 0], [3, 4]), tmp_path / "two.rch", workers=1, stint=2).close()
 
 
 # A tool's arguments with an old word, and the line that it prints.

@@ -218,31 +218,18 @@ def test_errors_by_their_kinds(tmp_path):
         assert isinstance(caught.value, FileNotFoundError) == issubclass(kind, FileNotFoundError)
         assert (str(caught.value).splitlines()[0], caught.value.status) == (message, status)
     assert [*tmp_path.iterdir()] == [graph]
-    of_files = dict.fromkeys(["HierarchyNotFound", "LibraryNotFound", "ProgramNotFound"], FileNotFoundError)
-    others = {"OutOfMemory": MemoryError, "ReadWriteError": OSError, "NoSuchNode": LookupError, "MapError": errors.FileError,
-              "NotProved": errors.HierarchyError, "WrongHierarchy": errors.HierarchyError, "ProgramStopped": errors.ProgramError}
-    for kind, base in {**of_files, **others}.items():
-        assert base in getattr(errors, kind).__mro__
-
-
-def test_a_hierarchy_that_is_cut_off_or_no_hierarchy_inside(square, tmp_path):
-    with open(square.path, "rb") as file:
-        whole = file.read()
-    same_rank = whole[:24] + whole[28:32] * 2 + whole[32:]
-    for data, says in ((whole[:-1], r"has \d+ bytes, and its head"), (same_rank, "two nodes have one rank")):
-        (tmp_path / "cut.rch").write_bytes(data)
-        with pytest.raises(domethyme.HierarchyError, match=f"cut.rch: {says}") as caught:
-            domethyme.Hierarchy(tmp_path / "cut.rch")
-        assert caught.value.status == 4
-    assert (square.nodes, square.links) == (4, (len(whole) - 24 - 16) // 24)
+    kinds = {FileNotFoundError: "HierarchyNotFound LibraryNotFound ProgramNotFound", MemoryError: "OutOfMemory", OSError: "ReadWriteError",
+             LookupError: "NoSuchNode", errors.FileError: "MapError NetworkError", errors.HierarchyError: "NotProved WrongHierarchy",
+             errors.ProgramError: "ProgramStopped"}
+    assert all(base in getattr(errors, kind).__mro__ for base, names in kinds.items() for kind in names.split())
 
 
 def test_unsigned_numbers_beside_others(square):
-    """numpy makes floats of such a list, and of two such columns."""
+    """numpy makes floats of such a list, and of two such columns; and objects of pandas' own integers."""
     mixed, wanted = [np.uint64(0), 2, np.int8(1)], square.matrix(iter([0, 2, 1])).tolist()
     assert square.matrix(mixed).tolist() == square.matrix(np.array(mixed, object)).tolist() == wanted
     frame = pd.DataFrame({"from": np.array([0, 1], np.uint64), "to": [2, 1]})
-    for pairs in (frame, zip([0, 1], [2, 1]), [(0, 2), (1, 1)]):
+    for pairs in (frame, frame.astype("Int64"), zip([0, 1], [2, 1])):
         assert square.lengths(pairs).tolist() == [7, 0]
     assert square.routes(frame)[np.uint64(1)].tolist() == [1]
     assert square.between([3] * 20 + [(3, 1)], [2] * 20).length == 13
@@ -382,11 +369,9 @@ def test_frames_without_a_pair(tmp_path):
             domethyme.Graph.from_frame(pd.concat([frame[:2], frame[:2][[name]]], axis=1))
 
 
-def test_columns_of_pandas_whole_numbers(square):
+def test_weights_of_pandas_whole_numbers():
     frame = pd.DataFrame({"from": [0, 1], "to": [1, 0], "weight": [3, 4]}, dtype="Int64")
     assert domethyme.Graph.from_frame(frame).weights.tolist() == [3, 4]
-    for each in (frame[["from", "to"]], frame.astype({"from": np.uint64, "to": np.int64})):
-        assert square.lengths(each).tolist() == [3, 9]
     frame.loc[1, "weight"] = pd.NA
     for scale in (None, 10):
         with pytest.raises(ValueError, match="weights have to be"):
@@ -435,12 +420,13 @@ def test_keys_that_are_saved(tmp_path):
 def test_keys_of_a_column(tmp_path):
     """Of one type; several nodes have one where routes begin or end at a junction, and others can't be asked for."""
     (tmp_path / "t.csv").write_text("osm,ends\n7,to\n8,\n7,from\n7,no\n,from\n9,to\n9,to\n")
-    keys = domethyme.Keys.read(tmp_path / "t.csv")
+    keys, texts = domethyme.Keys.read(tmp_path / "t.csv"), domethyme.Keys(["-17", "KN-1"])
     assert (keys.node(7), keys.end(7), keys.end(7, 2), keys.node(8)) == (2, 0, 2, 1)
-    assert (keys.begins(), keys.key(4), None in keys) == ({0: 2}, None, False)
-    for key, says in ((9, "9 names several nodes$"), ("8", "'8' names no node; there is 8, a number$")):
+    assert (keys.begins(), keys.key(4), None in keys, [*texts]) == ({0: 2}, None, False, ["-17", "KN-1"])
+    for of, key, says in ((keys, 9, "9 names several nodes$"), (keys, "8", "'8' names no node; there is 8, a number$"),
+                          (texts, -17, "there is '-17', a text$")):
         with pytest.raises(domethyme.NoSuchNode, match=says) as caught:
-            keys.node(key)
+            of.node(key)
         assert caught.value.key == key
     (tmp_path / "t.csv").write_text("shop\n7\n\"\"\nx\n")
     assert [*domethyme.Keys.read(tmp_path / "t.csv", "shop")] == ["7", None, "x"]
@@ -448,13 +434,6 @@ def test_keys_of_a_column(tmp_path):
     for count, kind in ((2, np.int64), (3, object)):
         found = great.of(np.arange(count))
         assert (found.dtype, found.tolist()) == (kind, [*great][:count])
-
-
-def test_keys_of_other_kinds_are_not_saved(tmp_path):
-    domethyme.Graph.from_keys([("a", 1)], ["b"], [3]).prepare(tmp_path / "t.rch").close()
-    assert not (tmp_path / "t.rch.keys").exists()
-    with pytest.raises(ValueError, match="str or int"):
-        domethyme.Keys([True, "b"]).save(tmp_path / "t.rch")
 
 
 @pytest.mark.parametrize("text, out, kind, message, explained", [
@@ -491,15 +470,3 @@ def test_files_that_are_checked(tmp_path):
         with pytest.raises(kind, match=says) as caught:
             domethyme.check(graph, file, program)
         assert getattr(caught.value, "pair", None) is None
-
-
-@pytest.mark.parametrize("names", ["abcd", [("a",), ("b",), ("c",), ("d",)]])
-def test_keys_of_another_graph(square, tmp_path, names):
-    """Keys of a graph, saved or not, are refused for another one's hierarchy of as many nodes, and taken for a second one of it."""
-    graph = domethyme.Graph.from_keys(*([names[node] for node in side] for side in SQUARE[:2]), [1, 1, 1, 1, 1])
-    for seed in (1, 2):
-        graph.prepare(tmp_path / f"{seed}.rch", seed=seed).close()
-    for seed in (1, 2):
-        domethyme.Hierarchy(tmp_path / f"{seed}.rch", keys=graph.keys).close()
-    with pytest.raises(ValueError, match="keys were saved for another file than .*square.rch"):
-        domethyme.Hierarchy(square.path, keys=graph.keys)

@@ -55,18 +55,12 @@ def version(number: int) -> Network:
 
 
 @functools.cache
-def prepared() -> pathlib.Path:
-    """The files of all versions."""
-    folder = pathlib.Path(tempfile.mkdtemp(prefix="versions-"))
+def prepared() -> "tempfile.TemporaryDirectory[str]":
+    """The files of all versions, until the end."""
+    folder = tempfile.TemporaryDirectory(prefix="versions-")
     for number in range(VERSIONS):
-        write_network(Drawn(version(number), version(number), False), folder / f"v{number}")
+        write_network(Drawn(version(number), version(number), False), pathlib.Path(folder.name, f"v{number}"))
     return folder
-
-
-@pytest.fixture(scope="module", autouse=True)
-def without_files_behind() -> Any:
-    yield
-    shutil.rmtree(prepared())
 
 
 def expected(number: int, question: Question) -> Any:
@@ -152,7 +146,7 @@ class Files(RuleBasedStateMachine):
     def rename(self, number: int, files: list[str]) -> None:
         """New files get the names of the old ones, as each night; or one of them alone."""
         for suffix in files:
-            shutil.copy(prepared() / f"v{number}.{suffix}", self.folder / f"new.{suffix}")
+            shutil.copy(f"{prepared().name}/v{number}.{suffix}", self.folder / f"new.{suffix}")
             os.replace(self.folder / f"new.{suffix}", self.folder / f"net.{suffix}")
             self.there[suffix] = number
         self.generation += "rch" in files

@@ -94,19 +94,15 @@ def test_a_route_longer_than_its_room(tmp_path):
 
 
 def test_threads_ask_at_once(ring):
+    """Each by a searcher that no other has."""
     with concurrent.futures.ThreadPoolExecutor(8) as pool:
         one = [pool.submit(ring.length, number % 60, (number * 7) % 60) for number in range(400)]
         many = [pool.submit(ring.lengths, [[0, number]] * 2000) for number in range(20)]
         assert [run.result() for run in one] == [(number * 6) % 60 for number in range(400)]
         assert [run.result().tolist() for run in many] == [[number] * 2000 for number in range(20)]
-
-
-def test_a_searcher_is_made_where_all_are_taken(ring):
-    router = ring._router
-    with concurrent.futures.ThreadPoolExecutor(1) as pool, router.searcher() as first:
-        assert (pool.submit(router.length, 0, 7).result(SECONDS), first.length(0, 8)) == (7, 8)
-    with router.searcher() as first, router.searcher() as second:
-        assert (first.length(1, 3), second.length(1, 4)) == (2, 3)
+        with ring._router.searcher() as first, ring._router.searcher() as second:
+            assert pool.submit(ring.length, 0, 7).result(SECONDS) == 7 and first is not second
+            assert (first.length(1, 3), second.length(1, 4)) == (2, 3)
 
 
 def test_a_fork_while_searchers_are_taken(ring):
@@ -180,12 +176,20 @@ def test_a_question_that_is_refused_memory(tmp_path):
     assert run_python(REFUSED, tmp_path / "fan.rch", str(last)).split() == ["refused", "1"] * 5
 
 
-def test_bytes_that_are_refused(path):
-    whole = path.read_bytes()
-    for data, says in ((b"", "end too early"), (whole[:-1], "end too early"), (b"X" + whole[1:], "no hierarchy file"),
-                       (whole + b"x", "follow the last link")):
-        with pytest.raises(domethyme.HierarchyError, match=f"f.rch: .*{says}"):
-            Router(data, "f.rch")
+def test_bytes_that_are_refused(ring, path, tmp_path):
+    """By the library, and by the head of their file before."""
+    whole, file, of_size = path.read_bytes(), tmp_path / "f.rch", r"has \d+ bytes, and its head"
+    for data, of_library, of_head in (
+        (b"", "end too early", "is no file"), (b"X" + whole[1:], "no hierarchy file", "is no file"),
+        (whole[:-1], "end too early", of_size), (whole + b"x", "follow the last link", of_size),
+        (whole[:24] + whole[28:32] * 2 + whole[32:], "two nodes have one rank", "two nodes have one rank"),
+    ):
+        file.write_bytes(data)
+        for says, read in ((of_library, lambda: Router(data, "f.rch")), (of_head, lambda: domethyme.Hierarchy(file))):
+            with pytest.raises(domethyme.HierarchyError, match=f"f.rch: .*{says}") as caught:
+                read()
+            assert caught.value.status == 4
+    assert (ring.nodes, ring.links) == (60, (len(whole) - 24 - 240) // 24)
 
 
 def test_a_file_of_no_graph(tmp_path):
