@@ -1,10 +1,8 @@
 """Tests of the package domethyme: what goes through arrays, files and the program, and what nobody can mean."""
 import functools
 import json
-import os
 import re
 import subprocess
-import sys
 import tracemalloc
 import types
 import typing
@@ -16,7 +14,7 @@ import pytest
 from draws import drawn
 from hypothesis import given
 from hypothesis import strategies as st
-from tool_case import PYTHON, ROOT
+from tool_case import ROOT, run_python
 
 import domethyme
 from domethyme import batch, errors, find_program, graphs
@@ -30,17 +28,6 @@ def square(tmp_path_factory):
     """The hierarchy of SQUARE."""
     with domethyme.Graph(*SQUARE).prepare(tmp_path_factory.mktemp("square") / "square.rch") as hierarchy:
         yield hierarchy
-
-
-def prepared(folder, name, *graph, **options):
-    """The hierarchy of a graph, whose files are NAME.gr and NAME.rch."""
-    domethyme.write_graph(folder / f"{name}.gr", *graph)
-    return domethyme.prepare(folder / f"{name}.gr", folder / f"{name}.rch", **options)
-
-
-def run_python(folder, code, **environment):
-    words, environment = [sys.executable, "-P", "-c", code], {**os.environ, "PYTHONPATH": str(PYTHON), **environment}
-    return subprocess.run(words, cwd=folder, env=environment, capture_output=True, text=True)
 
 
 @drawn(200)
@@ -88,15 +75,16 @@ def test_orders_are_those_of_the_program(tmp_path):
     offered = re.findall(r"possible values: ([^]]*)\]", said)[0].split(", ")
     assert list(typing.get_args(domethyme.graphs.Order)) == offered
     for options in (*({"order": order} for order in offered), {"order": "edges", "workers": 1, "seed": 7, "switch_order_after": 2}):
-        with prepared(tmp_path, "a", *SQUARE, **options) as hierarchy:
+        with domethyme.Graph(*SQUARE).prepare(tmp_path / "a.rch", **options) as hierarchy:
             assert hierarchy.length(3, 2) == 13
     with pytest.raises(domethyme.ProgramError, match="--stint takes"):
-        prepared(tmp_path, "a", *SQUARE, order="balanced", switch_order_after=2)
+        domethyme.Graph(*SQUARE).prepare(tmp_path / "a.rch", order="balanced", switch_order_after=2)
 
 
 def test_renewed(tmp_path):
     """The order is that of the old hierarchy, and the lengths are those of the new weights. The old file may be replaced."""
-    old, new = prepared(tmp_path, "old", *SQUARE, order="depth", workers=1), tmp_path / "new.rch"
+    domethyme.write_graph(tmp_path / "old.gr", *SQUARE)
+    old, new = domethyme.prepare(tmp_path / "old.gr", tmp_path / "old.rch", order="depth", workers=1), tmp_path / "new.rch"
     keys, told = [2**40, 5, 7, 6], []
     sources, targets = ([keys[node] for node in side] for side in SQUARE[:2])
     graph = domethyme.Graph.from_keys(sources, targets, [1, 1, 9, 5, 6])
@@ -119,7 +107,7 @@ def test_names_that_begin_with_a_hyphen(tmp_path):
     """They are names of files, and no options."""
     domethyme.write_graph(tmp_path / "-x.gr", *SQUARE)
     code = "import domethyme as d; d.prepare('-x.gr', '--help').close(); d.check('-x.gr', '--help')"
-    assert run_python(tmp_path, f"{code}; print(d.Hierarchy('--help').length(0, 2))").stdout == "7\n"
+    assert run_python(f"{code}; print(d.Hierarchy('--help').length(0, 2))", folder=tmp_path).stdout == "7\n"
 
 
 def test_the_library_is_looked_for_before_the_work(tmp_path):
@@ -127,10 +115,10 @@ def test_the_library_is_looked_for_before_the_work(tmp_path):
     domethyme.write_graph(tmp_path / "square.gr", *SQUARE)
     (tmp_path / "no.so").write_text("no library")
     code = "import domethyme; domethyme.prepare('square.gr', 'square.rch')"
-    ended = run_python(tmp_path, code, DOMETHYME_LIBRARY=str(tmp_path / "no.so"))
+    ended = run_python(code, folder=tmp_path, status=1, DOMETHYME_LIBRARY=str(tmp_path / "no.so"))
     last = ended.stderr.splitlines()[-1]
     assert re.match(r"domethyme.errors.LibraryNotFound: .*no.so: .*build it by packaging/build-library", last)
-    assert (ended.returncode, last.count("no.so"), ended.stderr.count("Traceback")) == (1, 1, 1)
+    assert (last.count("no.so"), ended.stderr.count("Traceback")) == (1, 1)
     assert not (tmp_path / "square.rch").exists()
 
 
@@ -218,9 +206,9 @@ def test_errors_by_their_kinds(tmp_path):
         assert isinstance(caught.value, FileNotFoundError) == issubclass(kind, FileNotFoundError)
         assert (str(caught.value).splitlines()[0], caught.value.status) == (message, status)
     assert [*tmp_path.iterdir()] == [graph]
-    kinds = {FileNotFoundError: "HierarchyNotFound LibraryNotFound ProgramNotFound", MemoryError: "OutOfMemory", OSError: "ReadWriteError",
-             LookupError: "NoSuchNode", errors.FileError: "MapError NetworkError", errors.HierarchyError: "NotProved WrongHierarchy",
-             errors.ProgramError: "ProgramStopped"}
+    kinds = {FileNotFoundError: "HierarchyNotFound LibraryNotFound ProgramNotFound", MemoryError: "OutOfMemory",
+             OSError: "ReadWriteError", LookupError: "NoSuchNode", errors.FileError: "MapError NetworkError",
+             errors.HierarchyError: "NotProved WrongHierarchy", errors.ProgramError: "ProgramStopped"}
     assert all(base in getattr(errors, kind).__mro__ for base, names in kinds.items() for kind in names.split())
 
 
@@ -382,7 +370,7 @@ def test_the_recipe_of_the_page(tmp_path):
     """The example of docs/PYTHON.md prints what it says."""
     text = (ROOT / "docs/PYTHON.md").read_text(encoding="utf-8").partition("## The nearest depot")[2]
     code = text.partition("```python\n")[2].partition("```")[0]
-    said = run_python(tmp_path, code).stdout.splitlines()
+    said = run_python(code, folder=tmp_path).stdout.splitlines()
     assert said == re.findall(r"# (\{.*\})", code) and len(said) == 2
 
 

@@ -4,13 +4,11 @@ import concurrent.futures
 import contextlib
 import os
 import signal
-import subprocess
-import sys
 import unittest.mock
 
 import pytest
 from kit.hierarchy_file import NONE, spelled
-from tool_case import PYTHON, SECONDS
+from tool_case import SECONDS, run_python
 
 import domethyme
 from domethyme import library
@@ -72,14 +70,6 @@ def path(tmp_path_factory):
 def ring(path):
     with domethyme.Hierarchy(path) as hierarchy:
         yield hierarchy
-
-
-def run_python(code, *words):
-    """What code says in a process of its own, which has to end well."""
-    environment = {**os.environ, "PYTHONPATH": str(PYTHON), "OPENBLAS_NUM_THREADS": "1"}
-    ended = subprocess.run([sys.executable, "-P", "-c", code, *words], env=environment, capture_output=True, text=True)
-    assert (ended.returncode, ended.stderr) == (0, "")
-    return ended.stdout
 
 
 def test_a_route_longer_than_its_room(tmp_path):
@@ -173,7 +163,8 @@ def test_a_question_that_is_refused_memory(tmp_path):
     last = 499_999
     links = [(0, node, 2, 1, NONE) for node in range(1, last)] + [(0, last, 1, 1, NONE)]
     (tmp_path / "fan.rch").write_bytes(spelled(range(last + 1), links, 2 * last))
-    assert run_python(REFUSED, tmp_path / "fan.rch", str(last)).split() == ["refused", "1"] * 5
+    ended = run_python(REFUSED, tmp_path / "fan.rch", str(last))
+    assert (ended.stdout.split(), ended.stderr) == (["refused", "1"] * 5, "")
 
 
 def test_bytes_that_are_refused(ring, path, tmp_path):
@@ -226,4 +217,4 @@ def test_where_the_library_is_looked_for(tmp_path, monkeypatch):
 def test_without_numpy(path):
     """One question at a time needs Python alone; what needs more says so by ImportError."""
     says = "this call needs numpy, which is missing: pip install 'domethyme[arrays]', or Debian's python3-numpy\n"
-    assert run_python(WITHOUT_NUMPY, path) == "2 ['a', 'b', 'c'] 8\n" + 3 * says
+    assert run_python(WITHOUT_NUMPY, path).stdout == "2 ['a', 'b', 'c'] 8\n" + 3 * says

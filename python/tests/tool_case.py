@@ -4,6 +4,7 @@ import os
 import pathlib
 import shutil
 import subprocess
+import sys
 import tempfile
 import types
 import unittest
@@ -86,6 +87,14 @@ class ToolCase(unittest.TestCase):
         path = self.folder / name
         path.write_text(text, encoding="utf-8")
         return path
+
+
+def run_python(code, *words, folder=None, status=0, **environment):
+    """Runs code in a process of its own, which finds the packages, and wants the status."""
+    environment = {**os.environ, "PYTHONPATH": str(PYTHON), "OPENBLAS_NUM_THREADS": "1", **environment}
+    ended = subprocess.run([sys.executable, "-P", "-c", code, *words], cwd=folder, env=environment, capture_output=True, text=True)
+    assert ended.returncode == status, ended.stderr
+    return ended
 
 
 def contrast(*colours: str) -> float:
