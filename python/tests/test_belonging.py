@@ -113,15 +113,18 @@ def test_one_weight_of_many(tmp_path, caplog):
 
 
 def test_flipped_bits(tmp_path):
-    """A flipped bit that reading takes is found if it changes a length."""
+    """A flipped bit that reading takes is found if it changes a length; and no other error is raised without the library."""
     run_tool("osm_to_gr", VILLAGE, tmp_path / "v", "--keep-islands")
     with domethyme.prepare(tmp_path / "v.gr", tmp_path / "v.rch", workers=1) as hierarchy:
         every = np.arange(hierarchy.nodes)
         right = hierarchy.matrix(every, every)
     damaged, whole, draw, found = tmp_path / "damaged.rch", (tmp_path / "v.rch").read_bytes(), random.Random(7), 0
+    network = net_file.read(f"{tmp_path}/v.net")
     for _ in range(600):
         place = draw.randrange(24, len(whole))
         damaged.write_bytes(whole[:place] + bytes([whole[place] ^ 1 << draw.randrange(8)]) + whole[place + 1 :])
+        with open(damaged, "rb") as file, contextlib.suppress(domethyme.HierarchyError):
+            belonging.compare(file.fileno(), "damaged.rch", network)
         try:
             with domethyme.Hierarchy(damaged) as hierarchy:
                 is_right = np.array_equal(hierarchy.matrix(every, every), right)

@@ -194,6 +194,7 @@ def test_errors_by_their_kinds(tmp_path):
         (domethyme.ReadWriteError, f"no.gr: {missing}", 7, lambda: domethyme.prepare("no.gr", file)),
         (domethyme.HierarchyError, f"{graph}: is no file that `routecli prepare` wrote", 4, lambda: domethyme.Hierarchy(graph)),
         (domethyme.HierarchyError, f"{tmp_path}: Is a directory", 7, lambda: domethyme.Hierarchy(tmp_path)),
+        (domethyme.HierarchyError, "/dev/null: is no regular file", 7, lambda: domethyme.Hierarchy("/dev/null")),
         (domethyme.HierarchyNotFound, f"{file}: {missing}: `routecli prepare --order balanced {graph} {file}` makes it", 7,
          lambda: domethyme.Hierarchy(file)),
         (FileNotFoundError, f"no: {missing}", 7, lambda: domethyme.Hierarchy("no")),

@@ -100,7 +100,7 @@ def test_what_notebooks_and_others_know(village):
             assert shown._repr_html_() is None and not hasattr(shown, "__geo_interface__")
             with pytest.raises(ValueError, match="no network to draw on"):
                 shown.geojson()
-    assert "more" not in routes[:20]._repr_html_()
+    assert not any("more" in routes[:count]._repr_html_() for count in (1, 20))
     assert repr(hierarchy) == f"<Hierarchy {hierarchy.path} of 38 nodes and {hierarchy.links} links>"
     other = types.SimpleNamespace(geojson=lambda drawn: {"features": [type(drawn)]})
     assert (route.geojson(other), routes.geojson(other)) == (domethyme.Route, {"features": [domethyme.Routes]})

@@ -67,7 +67,7 @@ def test_lengths_routes_and_tables(data: Any) -> None:
             of_pandas = ["series", "index"] if has_arrays or kind == "pairs" else []
             forms = [data.draw(st.sampled_from(["list", "iterator", *of_pandas, *["array"] * has_arrays])) for _ in range(2)]
             sides = [data.draw(st.lists(nodes, max_size=6)) for _ in range(2)]
-            check_table(asked, *sides, forms, data.draw(st.sampled_from([None, None, -1, math.inf])))
+            check_table(asked, *sides, forms, data.draw(st.sampled_from([None, None, 0, -1, math.inf])))
             added = st.one_of(st.just(0), st.integers(0, 50_000), st.just((1 << 32) - 1))
             starts, ends = (data.draw(st.dictionaries(nodes, added, min_size=1, max_size=4)) for _ in range(2))
             check_between(asked, starts, ends, data.draw(st.sampled_from(["mapping", "rows", "alone"])))
@@ -168,8 +168,8 @@ def check_table(asked: Asked, sources: list[int], targets: list[int], forms: lis
     if missing is None:
         table = np.asarray(domethyme.unscaled(found), float).tolist()
         assert table == [[asked.lengths[source].get(target, math.inf) for target in targets] for source in sources]
-    summed = asked.hierarchy.matrix(rows, columns, missing=missing, sums=["metres"])
-    lengths = [[asked.lengths[source].get(target, math.inf) for target in targets] for source in sources]
+    summed, none = asked.hierarchy.matrix(rows, columns, missing=missing, sums=["metres"]), 0 if missing == 0 else math.inf
+    lengths = [[asked.lengths[source].get(target, none) for target in targets] for source in sources]
     assert np.asarray(domethyme.unscaled(summed["length"]), float).tolist() == lengths
     for source, row in zip(sources, np.asarray(summed["metres"], float).reshape(len(sources), len(targets)), strict=True):
         millimetres = millimetres_reached(asked.net, asked.lengths[source], {source: 0})
@@ -306,18 +306,20 @@ def check_nearest(hierarchy: domethyme.Hierarchy, network: Network, place: Point
 
 def check_roads(hierarchy: domethyme.Hierarchy, roads: Network, where: list[Point], unit: str, factor: int, towards: bool) -> None:
     """The lines that are reached from places, or lead there, by their points; where they cross the 180th meridian by their metres."""
+    radius, values, colors = 30.5 if towards else 1000.0, {"minutes": [0.1, 0.3], "metres": [70, 250]}[unit], ["ffff00", "00ff00"]
     try:
-        points = [point for place in where if (point := roads.snap(place, 1000.0))]
+        points = [point for place in where if (point := roads.snap(place, radius))]
     except Ambiguous:
         return
-    values = {"minutes": [0.1, 0.3], "metres": [70, 250]}[unit]
     place: Any = where if len(where) > 1 else where[0]
+    words: Any = {"shape": "roads", "towards": towards, "radius": radius, "colors": colors}
     if len(points) < len(where):
         with pytest.raises(domethyme.NoSuchNode):
-            hierarchy.within(place, shape="roads", towards=towards, **{unit: values})
+            hierarchy.within(place, **words, **{unit: values})
         return
     given: Any = np.array(values) if towards else iter(values)
-    found = json.loads(json.dumps(hierarchy.within(place, shape="roads", towards=towards, **{unit: given})))["features"]
+    found = json.loads(json.dumps(hierarchy.within(place, **words, **{unit: given})))["features"]
+    assert [feature["properties"]["color"] for feature in found] == [f"#{color}" for color in colors[::-1]]
     for feature, value in zip(found, reversed(values), strict=True):
         said, geometry = feature["properties"], feature["geometry"]
         assert (said["contour"], said["metric"]) == (value, {"minutes": "time", "metres": "distance"}[unit])

@@ -113,15 +113,19 @@ class Handle:
         is_late = kind in READ_AGAIN and kind not in self.read and self.generation != generation
         return domethyme.WrongHierarchy if is_late else None
 
-    def answer(self, question: Question) -> Any:
-        return ANSWERS[question[0]](self.hierarchy, *question[1:])
-
-    def is_right(self, question: Question) -> bool:
-        self.read.add(question[0])
-        found, wanted = self.answer(question), expected(self.number, question)
-        if question[0] in ("metres", "summed"):
-            return any(abs(found - each) < 0.011 for each in wanted)
-        return abs(found - wanted) <= (3 if question[0] == "reached" else 0)
+    def check(self, question: Question, generation: int) -> None:
+        """The right answer, or the right error."""
+        kind, *nodes = question
+        if refused := self.refuses(kind, generation):
+            with pytest.raises(refused):
+                ANSWERS[kind](self.hierarchy, *nodes)
+            return
+        self.read.add(kind)
+        found, wanted = ANSWERS[kind](self.hierarchy, *nodes), expected(self.number, question)
+        if kind in ("metres", "summed"):
+            assert any(abs(found - each) < 0.011 for each in wanted)
+        else:
+            assert abs(found - wanted) <= (3 if kind == "reached" else 0)
 
 
 class Files(RuleBasedStateMachine):
@@ -166,32 +170,25 @@ class Files(RuleBasedStateMachine):
 
     @rule(handle=handles, question=QUESTIONS)
     def ask(self, handle: Handle, question: Question) -> None:
-        if refused := handle.refuses(question[0], self.generation):
-            with pytest.raises(refused):
-                handle.answer(question)
-        else:
-            assert handle.is_right(question)
+        handle.check(question, self.generation)
 
     @rule(handle=handles, question=QUESTIONS)
     def fork(self, handle: Handle, question: Question) -> None:
-        """A child has the hierarchy too."""
-        if handle.refuses(question[0], self.generation):
-            return
+        """A child has the hierarchy too, as it is."""
         child = os.fork()
         if not child:
-            status = 2
+            status = 1
             try:
-                status = 0 if handle.is_right(question) else 1
+                handle.check(question, self.generation)
+                status = 0
             finally:
                 os._exit(status)
         assert os.waitstatus_to_exitcode(os.waitpid(child, 0)[1]) == 0
 
     @rule(handle=handles, questions=st.lists(QUESTIONS, min_size=2, max_size=2))
     def ask_in_two_threads(self, handle: Handle, questions: list[Question]) -> None:
-        if any(handle.refuses(kind, self.generation) for kind, *_ in questions):
-            return
         with concurrent.futures.ThreadPoolExecutor(2) as threads:
-            assert all(threads.map(handle.is_right, questions * 3))
+            assert len([*threads.map(handle.check, questions * 3, [self.generation] * 6)]) == 6
 
     @rule(handle=handles)
     def close(self, handle: Handle) -> None:

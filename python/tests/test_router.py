@@ -35,8 +35,8 @@ for ask in (
     resource.setrlimit(resource.RLIMIT_AS, (now + (2 << 20), hard))
     try:
         print(ask())
-    except domethyme.OutOfMemory:
-        print("refused")
+    except domethyme.OutOfMemory as error:
+        print("refused", error.status)
     resource.setrlimit(resource.RLIMIT_AS, (soft, hard))
     print(ask())
 """
@@ -149,9 +149,10 @@ def test_a_searcher_that_is_lost_in_the_hands_of_an_interrupt(ring):
 def test_no_memory_for_a_searcher(ring):
     router = ring._router
     no_memory = unittest.mock.patch.object(type(router._first), "clone", return_value=None)
-    with no_memory, pytest.raises(domethyme.OutOfMemory, match="ring.rch: ") as caught:
-        router.length(0, 7)
-    assert caught.value.status == 6
+    for ask in (lambda: router.length(0, 7), router.clone):
+        with no_memory, pytest.raises(domethyme.OutOfMemory, match="ring.rch: ") as caught:
+            ask()
+        assert caught.value.status == 6
     with router.searcher() as searcher, no_memory, unittest.mock.patch.object(domethyme.router, "PATIENCE", 0.05):
         with pytest.raises(domethyme.OutOfMemory):
             router.length(0, 7)
@@ -164,7 +165,7 @@ def test_a_question_that_is_refused_memory(tmp_path):
     links = [(0, node, 2, 1, NONE) for node in range(1, last)] + [(0, last, 1, 1, NONE)]
     (tmp_path / "fan.rch").write_bytes(spelled(range(last + 1), links, 2 * last))
     ended = run_python(REFUSED, tmp_path / "fan.rch", str(last))
-    assert (ended.stdout.split(), ended.stderr) == (["refused", "1"] * 5, "")
+    assert (ended.stdout.split(), ended.stderr) == (["refused", "6", "1"] * 5, "")
 
 
 def test_bytes_that_are_refused(ring, path, tmp_path):
