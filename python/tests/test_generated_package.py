@@ -204,9 +204,10 @@ def check_reach(asked: Asked, starts: dict[int, int], limit: int | None, towards
     expected = [wanted[node] if wanted.get(node, math.inf) <= most else -1 for node in range(len(asked.keys))]
     values = found.tolist() if isinstance(found, np.ndarray) else found.fillna(-1).tolist()
     assert values == expected
-    assert isinstance(found, np.ndarray) or (found.index.tolist(), found.index.nlevels) == (asked.keys, 1)
     summed = asked.hierarchy.reach({asked.keys[node]: added for node, added in starts.items()}, limit, towards, sums=["metres"])
     assert [*summed] == ["length", "metres"] and [*map(type, summed.values())] == [type(found)] * 2
+    for each in (found, *summed.values()):
+        assert isinstance(each, np.ndarray) or (each.index.tolist(), each.index.nlevels) == (asked.keys, 1)
     assert domethyme.unscaled(summed["length"]).tolist() == domethyme.unscaled(found).tolist()
     millimetres = millimetres_reached(asked.net.turned if towards else asked.net, wanted, starts)
     for node, metres in enumerate(np.asarray(summed["metres"], float)):
