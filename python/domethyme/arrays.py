@@ -60,7 +60,8 @@ def pairs_of(pairs: Any, keys: Keys | None, nodes: int) -> Numbers:
     if len(outside):
         row = int(outside[0])
         pair = found[row].tolist()
-        raise NoSuchNode(f"row {row} of the pairs, {pair}, has a node that the hierarchy lacks", next(node for node in pair if node >= nodes))
+        lacking = next(node for node in pair if node >= nodes)
+        raise NoSuchNode(f"row {row} of the pairs, {pair}, has a node that the hierarchy lacks", lacking)
     return found
 
 
