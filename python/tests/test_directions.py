@@ -412,7 +412,8 @@ class FramesTests(ToolCase):
         frame = pandas.DataFrame(rows, columns=["lat", "name", "lon"], index=["depot", "shop", "farm"])
         rows = hierarchy.table(places)
         for sums, what in (((), "lengths"), (["metres"], "sums")):
-            with mock.patch.object(batch, "MAX_CELLS", 3), pytest.raises(domethyme.OutOfMemory, match=f"v.rch: a table of .* {what}"):
+            says = f"v.rch: a table of .* {what}"
+            with mock.patch.object(batch, "MAX_CELLS", 3), pytest.raises(domethyme.OutOfMemory, match=says):
                 hierarchy.table(places, sums=sums)
         assert hierarchy.table(frame, frame.iloc[:2]).to_numpy().tolist() == rows[:, :2].tolist()
         names, sides = [*frame.index], ((places[:2], frame), (frame.iloc[1:], places), (frame,), (frame, frame[:2]))
