@@ -34,6 +34,7 @@ def from_osm(
     for name in ("numpy", "scipy"):
         need(name)
     from .maps import conversion, vehicle_profile
+    from .network.network import Network
 
     names = os.fspath(out)
     if not os.path.basename(names) or os.path.isdir(names):
@@ -44,7 +45,7 @@ def from_osm(
     with reporting(progress) as on_progress:
         conversion.write_network(path, names, rules, chosen, on_progress)
         prepare(f"{names}.gr", f"{names}.rch", order, progress=on_progress if progress else False).close()
-    return open(names)
+    return Hierarchy(f"{names}.rch", network=Network(names))  # (keys beside it are those of another one before)
 
 
 def open(path: StrPath) -> Hierarchy:

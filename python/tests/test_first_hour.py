@@ -56,7 +56,8 @@ exec {domethyme.find_program()} "$@"
     (out.parent / "slow").write_text(text)
     (out.parent / "slow").chmod(0o755)
     monkeypatch.setenv("ROUTECLI", str(out.parent / "slow"))
-    domethyme.from_osm(VILLAGE, out.parent / "w", progress=lambda *now: told.append(now)).close()
+    (out.parent / "w.rch.keys").write_text("those of a hierarchy before")
+    assert domethyme.from_osm(VILLAGE, out.parent / "w", progress=lambda *now: told.append(now)).keys is None
     assert ("prepare", 2, 10) in told
 
 
