@@ -211,7 +211,8 @@ def test_route_many_compares(net):
     for name in ("net", "slow", "more"):
         run_tool("nearest", name, "trips.csv", "-o", f"{name}.pairs")
     pathlib.Path("slow.pairs").write_text(pathlib.Path("slow.pairs").read_text() + "c another comment\n")
-    pathlib.Path("older.pairs").write_text("c network slow: 3 nodes, 5 arcs\np aux sp p2p 1\nq 1 3\n")
+    for name, comment in (("older", "slow: 3 nodes, 5 arcs"), ("few", "few: 2 nodes")):
+        pathlib.Path(f"{name}.pairs").write_text(f"c network {comment}\np aux sp p2p 1\nq 1 2\n")
     for words in (["net.pairs", "--network", "net"], ["net.pairs"], ["older.pairs"]):  # (which doesn't say of which arcs it is)
         run_tool("route_many", "net.rch", words[0], "out", *words[1:])
     shutil.copy("net.rch", "alone.rch")
@@ -220,7 +221,8 @@ def test_route_many_compares(net):
     for words, says in [
         (["net.rch", "slow.pairs", "new"], of_slow), (["alone.rch", "slow.pairs", "new", "--network", "net"], of_slow),
         *((["net.rch", "net.pairs", "new", *named, *more], of_arc) for more in ([], ["--compare-all"])),
-        (["alone.rch", "more.pairs", "new"], "more.pairs: is of the network more with 4 nodes, and alone.rch has 3"),
+        *((["alone.rch", f"{name}.pairs", "new"], f"{name}.pairs: is of the network {name} with {count} nodes, and alone.rch has 3")
+          for name, count in (("more", 4), ("few", 2))),
         (["net.rch", "net.pairs", "net.net", "--network", "net"], "OUT and net.net are one file"),
     ]:
         with pytest.raises((domethyme.WrongHierarchy, domethyme.NetworkError, ToolError), match=says):
