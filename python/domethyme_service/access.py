@@ -12,7 +12,7 @@ from .errors import RequestError
 # A host and its port.
 HOST = re.compile(r"(\[[0-9A-Fa-f:.]{2,45}\]|[0-9A-Za-z._~-]{1,253})(?::[0-9]{0,5})?")
 BATCH_TYPES = ("application/x-ndjson", "application/ndjson", "application/jsonl", "application/json")
-ANY_ORIGIN, NO_ORIGIN = "*", "none"
+ANY_HOST, ANY_ORIGIN, NO_ORIGIN = "*", "*", "none"
 ORIGIN = re.compile(r"[a-z][a-z0-9+.-]*://[^/?#\s]+")
 
 
@@ -24,7 +24,7 @@ class AccessPolicy(NamedTuple):
 
     @classmethod
     def from_options(cls, hosts: Iterable[str], origin: str) -> "AccessPolicy":
-        return cls(frozenset(host.lower() for host in hosts), origin)
+        return cls(frozenset(host.lower().rstrip(".") for host in hosts), origin)
 
     def check(self, host: str | None, local: str, environ: Mapping[str, Any], is_page: bool) -> None:
         """Raises RequestError if a request isn't allowed. `host` is its Host, None for HTTP/1.0 without one; `local` the
@@ -48,7 +48,7 @@ class AccessPolicy(NamedTuple):
         if found is None:
             return False
         name = found[1].lower().rstrip(".")
-        return name in self.hosts or ANY_ORIGIN in self.hosts or is_address(name, local)
+        return name in self.hosts or ANY_HOST in self.hosts or is_address(name, local)
 
     @property
     def headers(self) -> dict[str, str]:

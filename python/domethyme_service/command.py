@@ -24,7 +24,7 @@ from domethyme import DomethymeError, find_program
 from domethyme.deprecated import current_options
 from domethyme.network.without import parse_classes
 
-from .access import ORIGIN, AccessPolicy
+from .access import ANY_HOST, HOST, ORIGIN, AccessPolicy
 from .dataset import DatasetPaths
 from .errors import StartupError
 from .gunicorn_app import Application
@@ -82,7 +82,7 @@ def argument_parser() -> argparse.ArgumentParser:
     add("--profile", metavar="WORD", action="append", default=[], help=profile)
     add("--program", metavar="FILE", help="routecli, for --verify: by default that of ROUTECLI, on PATH, or built here")
     host = "a host that requests may be for, * for any; several times"
-    add("--allowed-host", metavar="NAME", action="append", default=[], help=host)
+    add("--allowed-host", metavar="NAME", type=parse_host, action="append", default=[], help=host)
     add("--cors", metavar="ORIGIN", type=parse_origin, default="none", help="the origin whose pages may ask, * for any (none)")
     add("--access-log", action="store_true", help="a line of JSON on standard error for each request")
     add("--log-places", action="store_true", help="also log the request's path and the client's address (implies --access-log)")
@@ -117,6 +117,14 @@ def parse_excluded(text: str) -> tuple[frozenset[str], str]:
     return classes, path
 
 
+def parse_host(text: str) -> str:
+    """The host of an argument, as requests name it, but for a port."""
+    found = HOST.fullmatch(text)
+    if text != ANY_HOST and (found is None or found[1] != text):
+        raise argparse.ArgumentTypeError("a host is a name or an address as in a URL, without a port, or *")
+    return text
+
+
 def parse_origin(text: str) -> str:
     """The origin of an argument, as browsers send it."""
     if text not in ("*", "none") and not ORIGIN.fullmatch(text):
@@ -147,6 +155,8 @@ def listen_tcp(host: str, port: int) -> str:
         family, _, _, _, address = socket.getaddrinfo(host, port, type=socket.SOCK_STREAM)[0]
         check_loopback(str(address[0]))
         return listen(family, address)
+    except UnicodeError as error:
+        raise StartupError(f"can't listen at {host}: it is no name of a host") from error
     except OSError as error:
         hint = ": another --port, or 0 for any that is free" if error.errno == errno.EADDRINUSE else ""
         raise StartupError(f"can't listen at {host}, port {port}: {error.strerror}{hint}") from error
@@ -160,12 +170,12 @@ def listen_unix(path: str) -> str:
         if pathlib.Path(path).is_socket():
             with socket.socket(socket.AF_UNIX) as asking:
                 asking.setblocking(False)
-                if asking.connect_ex(path) in (0, errno.EAGAIN):
+                if asking.connect_ex(path) != errno.ECONNREFUSED:
                     raise StartupError(f"can't listen at unix:{path}: another service does")
             os.unlink(path)
         return listen(socket.AF_UNIX, path)
     except OSError as error:
-        raise StartupError(f"can't listen at unix:{path}: {error.strerror}") from error
+        raise StartupError(f"can't listen at unix:{path}: {error.strerror or error}") from error
     finally:
         os.umask(before)
 

@@ -266,7 +266,7 @@ class BrowserTests(ServiceCase):
                             ("localhost", "127.8.0.1")):
             self.assertTrue(access.is_address(name, local), (name, local))
         self.assertFalse(access.is_address("10.0.0.8", "10.0.0.7") or access.is_address("localhost", "10.0.0.7"))
-        for name, host, is_allowed in (("Routes.Example", "routes.example:443", True), ("*", "other", True), ("*", "a b", False)):
+        for name, host, is_allowed in (("Routes.Example", "routes.example:443", True), ("Routes.Example.", "routes.example.", True), ("*", "other", True), ("*", "a b", False)):
             self.assertEqual(access.AccessPolicy.from_options([name], "none").allows_host(host, "10.0.0.7"), is_allowed)
 
 

@@ -182,6 +182,7 @@ def test_numbers_of_options(option, low, high):
 @pytest.mark.parametrize("words, says", [
     ("--exclude toll=a --exclude toll=b", "the same classes twice"), ("--cors example.org", "an origin is SCHEME://HOST"),
     ("--cors a://b/", "an origin is"), ("--cors https://", "an origin is"), ("--cors a://b?c", "an origin is"),
+    *((f"--allowed-host {host}", "a host is a name or an address") for host in ("a:80", "*.a", "https://a", "[::1", "a/")),
     ("--connections 9", "--connections is no longer an option: use worker_connections"),
     ("--client-connections 9", "--client-connections is no longer an option: use limit_conn"),
     ("--head-seconds 9", "--head-seconds is no longer an option: use client_header_timeout"),
@@ -209,6 +210,13 @@ def test_sockets(tmp_path, monkeypatch):
         with pytest.raises(StartupError, match="another service does"):
             command.listen_unix(str(path))
     os.close(int(command.listen_unix(str(path)).removeprefix("fd://")))
+    path.unlink()
+    with socket.socket(socket.AF_UNIX, socket.SOCK_DGRAM) as other, pytest.raises(StartupError, match="another service does"):
+        other.bind(str(path))
+        command.listen_unix(str(path))
+    for listen, words, says in ((command.listen_unix, [f"{path}{'x' * 200}"], "AF_UNIX path too long"), (command.listen_tcp, ["a..b", 0], "no name of a host")):
+        with pytest.raises(StartupError, match=says):
+            listen(*words)
     path.unlink()
     path.write_text("a file")
     with pytest.raises(StartupError, match="Address already in use"):
