@@ -236,18 +236,21 @@ class Worker(SyncWorker):  # type: ignore[misc] # (gunicorn has no types)
             self.reject(late, RequestError(408, "Timeout", "the request's head has not come whole"))
         while self.lingering and (first := next(iter(self.lingering.items())))[1].deadline < now:
             self.lingering.pop(first[0]).client.close()
-        has_begun, refused = any(each.answer for each in self.queue), set[tuple[Client, bool]]()
+        refused = set[tuple[Client, bool]]()
         for connection in self.queue:
             needs = connection.owner, connection.is_long
-            # (of batches one is under way at once)
-            is_next = connection.answer or not has_begun or connection.request.method != "POST"
-            if is_next and needs not in refused and connection.earliest <= now:
+            if needs not in refused and connection.earliest <= now and not self.is_held_up(connection):
                 if self.slots.acquire(*needs):
                     self.queue.remove(connection)
                     self.serve(connection)
                     return True
                 refused.add(needs)
         return False
+
+    def is_held_up(self, connection: Connection) -> bool:
+        """Whether it is a long batch that hasn't begun, and another one is under way: a worker has the lines of one in memory."""
+        is_batch = connection.is_long and connection.request.method == "POST" and connection.answer is None
+        return is_batch and any(each.answer for each in self.queue)
 
     def tick(self) -> None:
         """Reports that the worker is alive, and rejects requests that have waited too long: also while it answers another one."""
@@ -275,10 +278,10 @@ class Worker(SyncWorker):  # type: ignore[misc] # (gunicorn has no types)
         self.serve_or_queue(connection)
 
     def serve_or_queue(self, connection: Connection) -> None:
-        """Answers a request if its slots are free, and no other one waits for the same. Else it waits, or is refused if too many do."""
+        """Answers a request if its slots are free, and nothing holds it up. Else it waits, or is refused if too many do."""
         waiting = [each for each in self.queue if each.answer is None]
         is_first = not any((each.owner, each.is_long) == (connection.owner, connection.is_long) for each in waiting)
-        if is_first and self.slots.acquire(connection.owner, connection.is_long):
+        if is_first and not self.is_held_up(connection) and self.slots.acquire(connection.owner, connection.is_long):
             self.serve(connection)
         elif len(waiting) >= MAX_QUEUE or sum(each.owner == connection.owner for each in waiting) >= MAX_QUEUE // 2:
             self.refuse(connection)

@@ -395,14 +395,18 @@ def test_an_answer_that_the_kernel_takes_in_parts(taken):
 
 def test_a_batch_frees_its_slot_between_blocks():
     """Others are answered between its blocks, of which each is a turn of its own; and it waits a moment if other workers have requests
-    that wait. A second one waits for its end."""
+    that wait. A second one waits for its end, if it is a long one."""
     case = Waiting(0.3)
     with case.clock():
-        batch, second, other = (case.connection(owner, True, blocks, "POST") for owner, blocks in ((A, 4), (B, 2), (B, 1)))
-        other.request.method, case.answers[other] = "GET", case.answers[other]._replace(is_in_blocks=False)
+        batch, second = (case.connection(owner, True, blocks, "POST") for owner, blocks in ((A, 4), (B, 2)))
+        other, short = case.connection(B), case.connection(B, False)
+        short.request.method = "POST"
         case.worker.serve_or_queue(batch)
         assert (case.worker.queue, case.worker.slots.is_taken, case.now) == ([batch], False, pytest.approx(0.3))
-        case.worker.queue += [second, other]
+        case.worker.serve_or_queue(second)
+        case.worker.serve_or_queue(short)
+        assert case.served.pop() == short
+        case.worker.queue.append(other)
         case.other.requests_waiting = 1
         assert case.worker.take_turn() and case.worker.queue == [second, other, batch]
         assert case.worker.take_turn() and case.worker.queue == [second, batch] and case.served == [other]
