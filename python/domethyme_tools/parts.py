@@ -40,6 +40,10 @@ PROBLEM = re.compile(rb"[ \t]*p[ \t]+aux[ \t]+sp[ \t]+p2p[ \t]+0*([0-9]{1,9})[ \
 NAMES = re.compile(r"plan\.json(\..+\.new)?|whole\.pairs|\d{6,}\.(pairs|answers|new)|(drafts|gone)-[0-9a-f]{32}")
 
 
+# Of folders: no others may write there, whatever the umask is.
+MODE = 0o775
+
+
 # The query file
 
 
@@ -160,7 +164,7 @@ def open_folder(out: str, anew: bool) -> Iterator[Folder]:
     with contextlib.ExitStack() as opened:
         while True:
             with contextlib.suppress(FileExistsError):
-                os.mkdir(folder.path)
+                os.mkdir(folder.path, MODE)
             # (a run that ends removes its lock)
             with contextlib.suppress(FileNotFoundError):
                 check_ownership(folder.path)
@@ -173,7 +177,7 @@ def open_folder(out: str, anew: bool) -> Iterator[Folder]:
         print(f"process {os.getpid()} on {socket.gethostname()}", file=lock, flush=True)
         is_empty = anew or not os.path.exists(folder.plan_file)
         folder.clear(("",) if is_empty else ("drafts-", "gone-"))
-        os.mkdir(folder.drafts)
+        os.mkdir(folder.drafts, MODE)
         try:
             yield folder
         finally:

@@ -352,6 +352,15 @@ class PartsFolderTests(RouteManyCase):
         self.assertEqual((self.folder / "out").read_text(), self.wanted)
 
 
+def test_a_folder_where_all_may_write_what_is_made(tmp_path):
+    before = os.umask(0)
+    try:
+        with parts.open_folder(str(tmp_path / "out"), False) as folder:
+            assert [os.stat(path).st_mode & 0o777 for path in (folder.path, folder.drafts)] == [0o775] * 2
+    finally:
+        os.umask(before)
+
+
 class RefusalTests(RouteManyCase):
     """Bad input: the program's own line, with its explanation, and status, and nothing is left."""
 
