@@ -164,6 +164,7 @@ def test_a_meter_ends_what_costs_too_much():
     with pytest.raises(RequestError, match="costs more than") as raised:
         for _ in range(MOST):
             meter.spend(Work.ROAD, 1000)
+    assert f"and {Work.ROAD.units} for each road that is looked at" in " ".join(PAGE.split())
     assert raised.value.code == "TooBig" and MOST < meter.spent <= MOST + 1000 * Work.ROAD.units
     assert max(later - now for now, later in itertools.pairwise(ticks)) < 50_000
     with pytest.raises(RequestError, match="would cost"):
