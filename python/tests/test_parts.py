@@ -112,6 +112,14 @@ def summed(drawn):
     return [plain(ask(np.arange(7), np.arange(count), missing=-1, sums=["metres"])["metres"]) for count in (1, 2)]
 
 
+def graph_of(_drawn):
+    """The text of a graph, of arrays and of lists."""
+    files = io.BytesIO(), io.BytesIO()
+    for file, arcs in zip(files, (ARCS, [each.tolist() for each in ARCS])):
+        dimacs.write_graph(file, 9, arcs, ["a comment"])
+    return [file.getvalue().splitlines() for file in files]
+
+
 def tables_of(drawn):
     """The tables of a network."""
     files = io.StringIO(), io.StringIO()
@@ -150,7 +158,7 @@ CASES = [
     (table, "CELLS", table_by_tool),
     (table, "CELLS", lambda drawn: table_by_tool(drawn, "--on-roads")),
     (on_roads, "SNAP_BATCH", lambda drawn: table_by_tool(drawn, "--on-roads")),
-    (table_files, "ROWS_AT_ONCE", tables_of),
+    (dimacs, "ROWS_AT_ONCE", graph_of), (table_files, "ROWS_AT_ONCE", tables_of),
     (tiles, "SEGMENTS_PER_CHUNK", tiles_of),
     (draw_roads, "PART", lambda drawn: plain(draw_roads.read_roads(drawn.network, None))),
 ]
@@ -171,15 +179,6 @@ def test_shares_of_a_map(tmp_path):
         subprocess.run([TOOLS / "osm_to_gr", VILLAGE, "v"], cwd=tmp_path, env=environment, check=True, capture_output=True)
         found.append([(tmp_path / f"v.{ending}").read_bytes() for ending in ("gr", "net")])
     assert found[0] == found[1]
-
-
-def test_the_text_of_a_graph(monkeypatch):
-    wanted = "c a comment\np sp 9 8\n" + "".join(f"a {start + 1} {end + 1} {weight}\n" for start, end, weight in zip(*ARCS))
-    monkeypatch.setattr(dimacs, "ROWS_AT_ONCE", 3)
-    for arcs in (ARCS, [each.tolist() for each in ARCS]):
-        file = io.BytesIO()
-        dimacs.write_graph(file, 9, arcs, ["a comment"])
-        assert file.getvalue().decode() == wanted
 
 
 def peak_of(call):

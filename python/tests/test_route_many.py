@@ -6,6 +6,7 @@ import contextlib
 import hashlib
 import io
 import os
+import pathlib
 import random
 import re
 import shlex
@@ -22,6 +23,7 @@ from domethyme import find_program
 from domethyme.dimacs import write_graph
 
 from domethyme_tools import parts, route_many
+from domethyme_tools.cli import ToolError
 
 from kit import plain
 
@@ -164,8 +166,8 @@ class RouteManyCase(ToolCase):
 
 
 def text_of(pairs):
-    """A text of pairs with a comment, a blank line, tabs, leading zeros, carriage returns, and no line feed at its end."""
-    lines = ["c pairs", "", f"\tp aux  sp p2p {len(pairs)} \r"]
+    """A text of pairs with a comment, a blank line, tabs, many leading zeros, carriage returns, and no line feed at its end."""
+    lines = ["c pairs", "", f"\tp aux  sp p2p {'0' * 5000}{len(pairs)} \r"]
     for number, (source, target) in enumerate(pairs):
         kinds = [f"q {source} {target}", f" q\t{source}\t{target}", f"q {source} {target}\r", f"q 00{source} {target} "]
         lines.append(kinds[number % 4])
@@ -182,15 +184,13 @@ class PartsTests(ToolCase):
         path, copy = self.folder / "pairs", self.folder / "copy"
         path.write_bytes(text)
         survey = parts.spool(path, copy)
-        self.assertEqual(copy.read_bytes(), text)
+        self.assertEqual((copy.read_bytes(), survey.sha256), (text, hashlib.sha256(text).hexdigest()))
         copy.unlink()
-        self.assertEqual(survey.sha256, hashlib.sha256(text).hexdigest())
         return survey.pairs, [part for _, part in parts.iter_parts(io.BytesIO(text), size)]
 
     def test_parts_of_a_text(self):
-        count, texts = self.cut(b"c\np aux sp p2p 3\nq 1 2\n\tq 3 4\r\n\nc q\nq 5 6", 2)
-        self.assertEqual(count, 3)
-        self.assertEqual(texts, [b"p aux sp p2p 2\nq 1 2\n\tq 3 4\r\n", b"p aux sp p2p 1\nq 5 6"])
+        texts = [b"p aux sp p2p 2\nq 1 2\n\tq 3 4\r\n", b"p aux sp p2p 1\nq 5 6"]
+        self.assertEqual(self.cut(b"c\np aux sp p2p 3\nq 1 2\n\tq 3 4\r\n\nc q\nq 5 6", 2), (3, texts))
         self.assertEqual(self.cut(b"p aux sp p2p 0\n", 2), (0, [b"p aux sp p2p 0\n"]))
 
     def test_random_texts_are_refused_as_a_whole_where_they_would_be_as_one(self):
@@ -238,14 +238,11 @@ def pairs_or_none(text):
 
 class OneMachineTests(RouteManyCase):
     def test_out_is_what_one_process_prints(self):
-        ended = self.many("--jobs", 3)
-        self.assertEqual((ended.stdout, ended.stderr), ("", ""))
-        self.assert_answered()
-
-    def test_parts_of_any_size(self):
-        for size in [1000, 999, 1001, 334]:
+        """In parts of any size."""
+        for size, jobs in [(PART, 3), (1000, 1), (999, 1), (1001, 1), (334, 1)]:
             with self.subTest(size=size):
-                self.many("--jobs", 1, "--pairs-per-part", size)
+                ended = self.many("--jobs", jobs, "--pairs-per-part", size)
+                self.assertEqual((ended.stdout, ended.stderr), ("", ""))
                 self.assert_answered()
 
     def test_pairs_from_standard_input(self):
@@ -254,11 +251,7 @@ class OneMachineTests(RouteManyCase):
         self.assert_answered()
         ended = self.run_tool("route_many", "network.rch", "-", "out", status=5, given="p aux sp p2p 1\nq 1 x\n")
         self.assertIn("  standard input:2: q 1 x", ended.stderr.splitlines())
-
-    def test_no_pairs(self):
-        self.write("pairs", "p aux sp p2p 0\n")
-        self.write("out", "of an earlier run\n")
-        self.many()
+        self.run_tool("route_many", "network.rch", "-", "out", given="p aux sp p2p 0\n")
         self.assertEqual((self.folder / "out").read_text(), "")
 
     def test_a_linked_out_stays_a_link(self):
@@ -291,24 +284,24 @@ class OneMachineTests(RouteManyCase):
         self.assert_refused("route_many", "network.rch", "pairs", "no/out", says="no/out.parts: No such file")
         self.assert_refused("route_many", "network.rch", "pairs", "out", "--program", "no", says="no: is no program")
 
-    def test_a_program_that_is_killed_is_begun_again(self):
-        program = self.held_program(trouble=f"rm {shlex.quote(str(self.folder))}/trouble; kill -9 $$")
-        self.write("trouble", "")
-        self.many("--jobs", 2, "--program", program)
-        self.assertEqual(self.parts_begun().count("000002.pairs"), 2)
-        self.assert_answered()
-
-    def test_a_program_that_is_killed_each_time_fails(self):
-        program = self.held_program(trouble="kill -9 $$")
-        self.write("trouble", "")
-        ended = self.many("--jobs", 1, "--program", program, status=1)
-        self.assertEqual(ended.stderr, f"route_many: {program} was ended by signal 9\n")
-        self.assertEqual(self.answered(), ["000000.answers", "000001.answers"])
-        (self.folder / "trouble").unlink()
-        self.many("--jobs", 1, "--program", program)
-        self.assertEqual(self.parts_begun().count("000001.pairs"), 1)
-        self.assertEqual(self.parts_begun().count("000002.pairs"), 4)
-        self.assert_answered()
+    def test_a_program_that_fails_at_a_part(self):
+        """By a signal, which is tried three times, or by its status: the same call goes on with what is done."""
+        for trouble, status, says, times in (
+            ("kill -9 $$", 1, "route_many: {} was ended by signal 9", 3),
+            ("echo routecli: memory >&2; exit 6", 6, "routecli: memory", 1),
+            ("echo something >&2; exit 9", 1, "route_many: {} ended with status 9: something", 1),
+            ("exit 5", 1, "route_many: routecli refuses a part of the pairs, and takes them as a whole", 1),
+        ):
+            program = self.held_program(trouble)
+            self.write("trouble", "")
+            ended = self.many("--jobs", 1, "--program", program, status=status)
+            self.assertEqual(ended.stderr, f"{says.format(program)}\n")
+            self.assertEqual(self.answered(), ["000000.answers", "000001.answers"])
+            (self.folder / "trouble").unlink()
+            self.many("--jobs", 1, "--program", program)
+            self.assertEqual([self.parts_begun().count(f"00000{part}.pairs") for part in (1, 2)], [1, times + 1])
+            self.assert_answered()
+            (self.folder / "begun").unlink()
 
     def test_no_scheduler(self):
         for where, environment in (("tcp://127.0.0.1:1", {CONNECT: "200ms"}), ("no.json", {})):
@@ -316,40 +309,35 @@ class OneMachineTests(RouteManyCase):
             self.assertEqual((said.count("\n"), f"route_many: {where}: no scheduler answers" in said), (1, True), said)
 
 
-class PartsFolderTests(RouteManyCase):
-    """A folder OUT.parts that another user has made, where any may write: nothing is written by its links."""
+@pytest.mark.parametrize("name, says", [
+    *((name, "is a link") for name in ("lock", "plan.json", "whole.pairs", "000000.pairs", f"drafts-{'0' * 32}")),
+    ("", "isn't a folder that you alone may write to"),
+])
+def test_links_in_a_folder_that_any_may_write_to(tmp_path, name, says):
+    """Nothing is written by them."""
+    folder, victim = tmp_path / "out.parts", tmp_path / "victim"
+    victim.write_text("as it was")
+    if name:
+        folder.mkdir()
+    (folder / name if name else folder).symlink_to(victim if name else tmp_path)
+    with pytest.raises(ToolError, match=rf"out\.parts.*{says}"), parts.open_folder(str(tmp_path / "out"), False):
+        pass
+    assert (victim.read_text(), {*os.listdir(tmp_path)}) == ("as it was", {"out.parts", "victim"})
 
-    def refused(self, says):
-        victim = self.write("victim", "as it was")
-        ended = self.run_tool("route_many", "network.rch", "pairs", "out", status=1)
-        self.assertRegex(ended.stderr, rf"^route_many: .*out\.parts.*{says}.*\n$")
-        self.assertEqual((victim.read_text(), (self.folder / "out").exists()), ("as it was", False))
 
-    def test_links(self):
-        parts_folder = self.folder / "out.parts"
-        parts_folder.symlink_to(self.folder)
-        self.refused("isn't a folder that you alone may write to")
-        parts_folder.unlink()
-        for name in ("lock", "plan.json", "whole.pairs", "000000.pairs", "drafts-" + "0" * 32):
-            with self.subTest(name=name):
-                parts_folder.mkdir()
-                (parts_folder / name).symlink_to(self.folder / "victim")
-                self.refused("is a link")
-                (parts_folder / name).unlink()
-                parts_folder.rmdir()
-
-    def test_a_folder_of_others(self):
-        parts_folder = self.folder / "out.parts"
-        parts_folder.mkdir()
-        parts_folder.chmod(0o777)
-        self.refused("isn't a folder that you alone may write to")
-        parts_folder.chmod(0o775)
-        if os.geteuid() == 0:
-            os.chown(parts_folder, 65534, 65534)
-            self.refused("isn't a folder that you alone may write to")
-            os.chown(parts_folder, 0, 0)
-        self.assertEqual(self.run_tool("route_many", "network.rch", "pairs", "out").stdout, "")
-        self.assertEqual((self.folder / "out").read_text(), self.wanted)
+@pytest.mark.parametrize("mode, owner, is_refused", [(0o777, 0, True), (0o775, 65534, True), (0o775, 0, False)])
+def test_a_folder_of_others(tmp_path, mode, owner, is_refused):
+    folder = tmp_path / "out.parts"
+    folder.mkdir()
+    folder.chmod(mode)
+    if owner and os.geteuid() == 0:
+        os.chown(folder, owner, owner)
+    elif owner:
+        return
+    raises = pytest.raises(ToolError, match="that you alone may") if is_refused else contextlib.nullcontext()
+    with raises, parts.open_folder(str(tmp_path / "out"), False):
+        pass
+    assert folder.exists() == is_refused
 
 
 def test_a_folder_where_all_may_write_what_is_made(tmp_path):
@@ -397,12 +385,6 @@ class RefusalTests(RouteManyCase):
                 self.write("pairs", text)
                 self.assert_program_refuses(f"routecli: queries: {fault}")
 
-    def test_a_problem_line_of_many_digits(self):
-        text = (self.folder / "pairs").read_text().replace("p2p 1000", f"p2p {'0' * 5000}1000")
-        self.write("pairs", text)
-        self.many("--jobs", 2)
-        self.assert_answered()
-
     def test_first_fault_though_a_later_part_fails_first(self):
         """And before an earlier part that fails for no fault of the input."""
         lines = ["p aux sp p2p 1000"] + ["q 1 2"] * 1000
@@ -430,45 +412,35 @@ class RefusalTests(RouteManyCase):
         (self.folder / "network.rch").write_bytes(whole[:-1])
         self.assert_program_refuses("routecli: hierarchy: Truncated", status=4)
 
-    def test_statuses_of_the_program_that_are_no_fault_of_the_input(self):
-        program = self.held_program(trouble="echo routecli: memory >&2; exit 6")
-        self.write("trouble", "")
-        self.assertEqual(self.many("--jobs", 1, "--program", program, status=6).stderr, "routecli: memory\n")
-        self.assertEqual(self.answered(), ["000000.answers", "000001.answers"])
-        (self.folder / "trouble").unlink()
-        self.many("--jobs", 1, "--program", program)
-        self.assertEqual(self.parts_begun().count("000000.pairs"), 1)
-        self.assert_answered()
-
-    def test_a_status_that_the_program_does_not_have(self):
-        """And one that it has for a part alone."""
-        self.write("trouble", "")
-        said = f"{self.folder / 'held_program'} ended with status 9: something else"
-        for status, says in ((9, said), (5, "routecli refuses a part of the pairs, and takes them as a whole")):
-            program = self.held_program(trouble=f"echo something else >&2; exit {status}")
-            ended = self.many("--jobs", 2, "--program", program, "--restart", status=1)
-            self.assertEqual(ended.stderr, f"route_many: {says}\n")
 
 @pytest.fixture
 def part(tmp_path):
     """The task of a program that ends as the text of the pairs says, and the words of a part after it."""
     program, hierarchy, pairs, answers = (tmp_path / name for name in ("program", "hierarchy", "000000.pairs", "answers"))
-    program.write_text('#!/bin/sh\necho answered; echo "said of $3 " >&2; echo "  more\t" >&2; exit $(cat "$3")\n')
+    program.write_text('#!/bin/sh\necho answered; echo "said of $3 " >&2; echo "  more\t" >&2; . "$3"\n')
     program.chmod(0o755)
     (tmp_path / "drafts").mkdir()
-    for path in (hierarchy, pairs, answers):
-        path.write_text("0")
-    return domethyme_part.task(str(program), str(hierarchy), str(tmp_path / "drafts"), "PAIRS"), (str(pairs), 1, str(answers))
+    for path, text in ((hierarchy, "0"), (pairs, "exit 0"), (answers, "0")):
+        path.write_text(text)
+    return domethyme_part.task(str(program), str(hierarchy), str(tmp_path / "drafts"), "PAIRS"), (str(pairs), 6, str(answers))
 
 
-@pytest.mark.parametrize("status", range(10))
-def test_how_a_part_ends(part, status, tmp_path):
-    """With the answers, or with what the program says of PAIRS in lines, or in one if it isn't a refusal; and without a draft."""
-    task, words = part
-    (tmp_path / "000000.pairs").write_text(str(status))
-    found, fault = domethyme_part.answer(task, *words), f"{task['program']} ended with status {status}: said of PAIRS more"
-    assert found == ((0, None, 9) if status == 0 else (status, "said of PAIRS\n  more", 0) if 3 <= status <= 8 else (1, fault, 0))
-    assert ((tmp_path / "answers").read_text(), os.listdir(task["drafts"])) == ("answered\n" if status == 0 else "0", [])
+@pytest.mark.parametrize("script, status, says", [
+    ("exit 0", 0, None), *((f"exit {status}", status, "said of PAIRS\n  more") for status in range(3, 9)),
+    *((f"exit {status}", 1, f"{{0}}program ended with status {status}: said of PAIRS more") for status in (1, 2, 9)),
+    ("kill -9 $$", 1, "{0}program was ended by signal 9"), ("echo >> tries; [ $(wc -l < tries) = 3 ] || kill -9 $$", 0, None),
+    ("echo >> tries; [ $(wc -l < tries) = 4 ] || kill -9 $$", 1, "{0}program was ended by signal 9"),
+    ("echo 1 > hierarchy", 1, "{0}hierarchy isn't the file that the run began with"),
+])
+def test_how_a_part_ends(part, script, status, says, tmp_path, monkeypatch):
+    """With the answers, or with what the program says of PAIRS in lines, or in one if it isn't a refusal; and without a draft. What
+    is killed is begun again, three times in all."""
+    monkeypatch.chdir(tmp_path)
+    task, (text, _, answers) = part
+    pathlib.Path(text).write_text(script)
+    found = domethyme_part.answer(task, text, len(script), answers)
+    assert found == (status, says and says.format(f"{tmp_path}/"), 0 if status else 9)
+    assert (pathlib.Path(answers).read_text(), os.listdir(task["drafts"])) == ("0" if status else "answered\n", [])
 
 
 def test_files_of_a_part_that_are_others(part, tmp_path):
@@ -541,16 +513,16 @@ class TwoCallsTests(RouteManyCase):
         self.release("000003.pairs")
         return program
 
-    def goes_on(self, number):
-        """The same call goes on with what an interrupted one has done."""
-        program = self.interrupted(number)
-        self.many("--jobs", 3, "--program", program)
-        wanted = [f"{part:06}.pairs" for part in range(20)] + ["000003.pairs"]
-        self.assertEqual(sorted(self.parts_begun()), sorted(wanted))
-        self.assert_answered()
-
     def test_interrupted_and_gone_on_with(self):
-        self.goes_on(signal.SIGINT)
+        """The same call goes on with what one has done that was interrupted, ended by SIGTERM, or killed."""
+        wanted = [f"{part:06}.pairs" for part in range(20)] + ["000003.pairs"]
+        for number in (signal.SIGINT, signal.SIGTERM, signal.SIGKILL):
+            program = self.interrupted(number)
+            self.many("--jobs", 3, "--program", program)
+            self.assertEqual(sorted(self.parts_begun()), sorted(wanted))
+            self.assert_answered()
+            (self.folder / "out").unlink()
+            (self.folder / "begun").unlink()
 
     def test_interrupted_before_the_cut(self):
         (self.folder / "pairs").unlink()
@@ -561,12 +533,6 @@ class TwoCallsTests(RouteManyCase):
             self.assert_ends(run, 130)
         self.assertEqual(self.said(), "")
         self.assert_untouched()
-
-    def test_ended_by_sigterm_and_gone_on_with(self):
-        self.goes_on(signal.SIGTERM)
-
-    def test_killed_and_gone_on_with(self):
-        self.goes_on(signal.SIGKILL)
 
     def test_another_call_does_not_go_on(self):
         program = self.interrupted(signal.SIGINT)
@@ -618,17 +584,6 @@ class TwoCallsTests(RouteManyCase):
         ended = self.run_program(words, 1)
         self.assertEqual(ended.stderr, f"route_many: {self.folder.resolve() / 'out.parts'}: File too large\n")
 
-    def test_a_hierarchy_that_changes_during_the_run(self):
-        self.run_program([self.program, "prepare", "--workers", "0", "network.gr", "other.rch"])
-        run, _ = self.held_at("000003.pairs", "--jobs", 1)
-        os.replace(self.folder / "other.rch", self.folder / "network.rch")
-        self.release("000003.pairs")
-        self.assert_ends(run, 1)
-        hierarchy = self.folder / "network.rch"
-        wanted = f"route_many: {hierarchy} isn't the file that the run began with\n"
-        self.assertEqual(self.said(), wanted)
-        self.assertEqual(self.answered(), ["000000.answers", "000001.answers", "000002.answers"])
-
 
 class CutTests(RouteManyCase):
     """`--split-only`: the parts are answered by others, as the tasks of an array are."""
@@ -638,40 +593,24 @@ class CutTests(RouteManyCase):
             answers = self.run_program([self.program, "route", "network.rch", f"out.parts/{part:06}.pairs"]).stdout
             self.write(f"out.parts/{part:06}.answers", answers)
 
-    def cut(self):
-        ended = self.many("--split-only")
-        self.assertEqual(ended.stdout, f"20 parts in {self.folder.resolve()}/out.parts\n")
-        heads = {path.read_text().partition("\n")[0] for path in (self.folder / "out.parts").glob("0*.pairs")}
-        self.assertEqual(heads, {f"p aux sp p2p {PART}"})
-
     def test_cut_answer_and_join(self):
-        self.cut()
-        self.answer(range(20))
-        self.many("--split-only")
-        self.assert_answered()
-
-    def test_parts_without_answers(self):
-        self.cut()
+        """Once each part has its answers, whole."""
+        folder = self.folder.resolve() / "out.parts"
+        self.assertEqual(self.many("--split-only").stdout, f"20 parts in {folder}\n")
+        self.assertEqual({path.read_text().partition("\n")[0] for path in folder.glob("0*.pairs")}, {f"p aux sp p2p {PART}"})
         self.answer([*range(4), *range(6, 20)])
         ended = self.many("--split-only", status=1)
-        first = self.folder.resolve() / "out.parts/000004.pairs"
-        self.assertEqual(ended.stderr, f"route_many: 2 of 20 parts have no answers yet, the first is {first}\n")
-        self.many("--jobs", 2)
-        self.assert_answered()
-
-    def test_answers_that_are_not_whole(self):
-        self.cut()
-        self.answer(range(20))
-        answers = self.folder.resolve() / "out.parts/000007.answers"
+        self.assertEqual(ended.stderr, f"route_many: 2 of 20 parts have no answers yet, the first is {folder}/000004.pairs\n")
+        self.answer([4, 5])
+        answers = folder / "000007.answers"
         whole = answers.read_bytes()
         for changed, count in ((whole[:-1], 49), (whole + b"n 1 2\n", 51)):
             answers.write_bytes(changed)
-            ended = self.many("--split-only", status=1)
             problem = f"has {count} lines for 50 pairs: remove it and give the same call again"
-            self.assertEqual(ended.stderr, f"route_many: {answers}: {problem}\n")
+            self.assertEqual(self.many("--split-only", status=1).stderr, f"route_many: {answers}: {problem}\n")
             self.assertFalse((self.folder / "out").exists())
-        answers.unlink()
-        self.many("--jobs", 1)
+        answers.write_bytes(whole)
+        self.many("--split-only")
         self.assert_answered()
 
     def test_a_wrong_count_is_refused_at_the_cut(self):
@@ -724,22 +663,19 @@ class DaskTests(RouteManyCase):
         self.assertEqual(self.parts_begun().count(lost), 2)
         self.assert_answered()
 
-    def test_all_workers_are_killed_and_a_late_one_finishes(self):
-        first = self.start_workers("one")[0]
-        run, program = self.held_at("000003.pairs", "--dask", "scheduler.json")
+    def test_it_waits_for_a_first_worker_and_for_a_late_one(self):
+        self.until((self.folder / "scheduler.json").exists)
+        program = self.held_program()
+        self.hold("000003.pairs")
+        run = self.start_many("--dask", "scheduler.json", "--program", program)
+        self.until(lambda: "there is no worker yet" in (self.folder / "said").read_text())
+        first = self.start_worker("first")
+        self.until(lambda: "000003.pairs" in self.parts_begun())
         first.kill()
         self.release("000003.pairs")
         self.start_worker("late")
         self.assert_ends(run)
         self.assertEqual(self.parts_begun().count("000000.pairs"), 1)
-        self.assert_answered()
-
-    def test_it_waits_for_a_first_worker(self):
-        self.until((self.folder / "scheduler.json").exists)
-        run = self.start_many("--dask", "scheduler.json")
-        self.until(lambda: "there is no worker yet" in (self.folder / "said").read_text())
-        self.start_worker("first")
-        self.assert_ends(run)
         self.assert_answered()
 
     def test_a_worker_with_another_hierarchy(self):
@@ -751,13 +687,7 @@ class DaskTests(RouteManyCase):
         hierarchy = "/proc/self/cwd/network.rch"
         run = self.start_many("--dask", "scheduler.json", hierarchy=hierarchy)
         self.assert_ends(run, 1)
-        wanted = f"route_many: worker stale-one: {hierarchy} isn't the file that the run began with\n"
-        self.assertEqual(self.said(), wanted)
-        self.assert_untouched()
-        os.unlink(self.folder / "stale/network.rch")
-        self.assert_ends(self.start_many("--dask", "scheduler.json", hierarchy=hierarchy), 1)
-        wanted = f"route_many: worker stale-one: {hierarchy}: No such file or directory\n"
-        self.assertEqual(self.said(), wanted)
+        self.assertEqual(self.said(), f"route_many: worker stale-one: {hierarchy} isn't the file that the run began with\n")
         self.assert_untouched()
 
     def test_a_late_worker_with_another_hierarchy(self):
@@ -769,8 +699,7 @@ class DaskTests(RouteManyCase):
         self.start_workers("stale-one", folder="stale")
         first.kill()
         self.assert_ends(run, 1)
-        wanted = f"route_many: worker stale-one: {hierarchy} isn't the file that the run began with\n"
-        self.assertEqual(self.said(), wanted)
+        self.assertEqual(self.said(), f"route_many: worker stale-one: {hierarchy} isn't the file that the run began with\n")
         self.assertEqual(self.answered(), ["000000.answers", "000001.answers", "000002.answers"])
 
     def test_bad_input(self):
@@ -790,8 +719,7 @@ class DaskTests(RouteManyCase):
         run, program = self.held_at("000003.pairs", "--dask", "scheduler.json")
         end(self.scheduler)
         self.assert_ends(run, 1)
-        said = "the scheduler went away; the same call resumes with the parts that are done"
-        self.assertEqual(self.said(), f"route_many: scheduler.json: {said}\n")
+        self.assertIn("scheduler.json: the scheduler went away; the same call resumes with the parts that are done\n", self.said())
         self.goes_on_alone(program)
 
     def test_an_interrupt(self):
