@@ -136,7 +136,10 @@ def test_metrics_of_several_processes():
     buckets = [values[f'request_seconds_bucket{{endpoint="/table",le="{bound}"}}'] for bound in ("0.001", "0.0025", "30.0", "+Inf")]
     assert (buckets, values["nodes"], values["queries_total"], values["questions_total"]) == (["1", "2", "2", "3"], "7", "6", "6")
     assert float(values["resident_memory_bytes"]) == pytest.approx(1024 * resident(os.getpid()), rel=0.1)
-    for name, kind in re.findall(r"(?m)^# TYPE domethyme_(\S+) (\S+)$", text):
+    kinds = re.findall(r"(?m)^# TYPE domethyme_(\S+) (\S+)$", text)
+    old = "fronts questions_total front_restarts_total front_silences_total reloads_refused_total work_stopped_total"
+    assert {*old.split()} <= {*dict(kinds)}
+    for name, kind in kinds:
         assert kind == ("histogram" if name == "request_seconds" else "counter" if name.endswith("_total") else "gauge")
 
 

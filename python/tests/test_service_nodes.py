@@ -2,6 +2,7 @@
 import datetime
 import json
 import os
+import platform
 import re
 import socket
 import subprocess
@@ -10,6 +11,7 @@ import time
 
 from unittest import mock
 
+import gunicorn
 import pytest
 from service_case import ServiceCase
 from tool_case import PYTHON, ROOT, SECONDS, TOOLS
@@ -95,8 +97,8 @@ class NodesTests(ServiceCase):
         for name, least in (("resident_memory_bytes", 1 << 20), ("last_reload_timestamp_seconds", time.time() - 1000), ("workers", 4), ("fronts", 4)):
             self.assertGreaterEqual(self.value(name), least)
         version = re.search(r'(?m)^version = "(.*)"', (ROOT / "python/pyproject.toml").read_text())[1]
-        self.assertEqual(self.value(re.search(r"domethyme_(build_info{.*}) 1", text)[1]), 1)
-        self.assertIn(f'domethyme_build_info{{version="{version}",', text)
+        versions = f'version="{version}",python="{platform.python_version()}",gunicorn="{gunicorn.__version__}"'
+        self.assertIn(f"\ndomethyme_build_info{{{versions}}} 1\n", text)
         self.wait_for(lambda: sum('"/nodes/length"' in line for line in self.said) == 2)
         good, refused = (json.loads(line) for line in self.said if '"/nodes/length"' in line)
         self.assertEqual(set(good), {"time", "method", "endpoint", "status", "bytes", "milliseconds"})
@@ -104,6 +106,7 @@ class NodesTests(ServiceCase):
         self.assertIn(f"at http://127.0.0.1:{self.port}/, {self.graph.nodes} nodes\n", "".join(self.said))
         self.assertEqual((set(refused) - set(good), refused["error"], refused["status"]), ({"error"}, "InvalidValue", 400))
         self.assertLess(abs(datetime.datetime.fromisoformat(good["time"]).timestamp() - time.time()), 1000)
+        self.assertRegex(good["time"], r"^[0-9-]{10}T[0-9:]{8}\.[0-9]{3}Z$")
 
     def links(self):
         return int.from_bytes((self.folder / "v.rch").read_bytes()[8:16], "big")
@@ -153,16 +156,19 @@ RENAMED = ["checked is now --verify", "within is now --radius", "default-radius 
 
 
 @pytest.mark.parametrize("words, paths, options, more, says", [
-    ("--compare-all --workers 2", DatasetPaths("a.rch", None, compare_all=True),
-     Options(AccessPolicy(frozenset(), "none"), 1000, 1_000_000, []), (4, True, False),
+    ("--compare-all --workers 2 --allowed-host * --allowed-host [::1]", DatasetPaths("a.rch", None, compare_all=True),
+     Options(AccessPolicy(frozenset({"*", "[::1]"}), "none"), 1000, 1_000_000, []), (4, True, False),
      ["domethyme-serve: --workers 2: takes 4, the least, since a long request holds one"]),
     (WORDS, DatasetPaths("a.rch", "net", "g.gr", find_program(), False, True, EXCLUDED),
      Options(AccessPolicy(frozenset({"a.org", "b"}), "a://b:80"), 7, 9, ["car", "van"]), (5, True, True),
      [f"domethyme-serve: --{each}; the old word goes with the next version" for each in RENAMED]),
 ], ids=["one", "others"])
 def test_what_the_options_start(words, paths, options, more, says, capsys):
-    with mock.patch.multiple(command, Application=mock.DEFAULT, open_sockets=lambda _args: (["fd://9"], True)) as patched:
+    with mock.patch.multiple(command, Application=mock.DEFAULT, open_sockets=mock.DEFAULT) as patched:
+        patched["open_sockets"].return_value = ["fd://9"], True
         command.main(["a.rch", *words.split()])
+    where = patched["open_sockets"].call_args.args[0]
+    assert (where.host, where.port, where.bind) == ("127.0.0.1", 5000, None)
     patched["Application"].assert_called_once_with(paths, options, ["fd://9"], *more)
     assert sorted(capsys.readouterr().err.splitlines()) == sorted(says)
 
