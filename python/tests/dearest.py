@@ -83,7 +83,17 @@ class Climber:
         return {"service": service, "places": places, "query": query}
 
     def places(self, count):
-        return drawn_places(self.service.engine.roads.box, self.draw, count)
+        """Places on the network: all over it, near together, in two corners in turn, or on the other side of the earth."""
+        west, south, east, north = self.service.engine.roads.box
+        wide, high, kind = east - west, north - south, self.draw.randrange(8)
+        if kind == 0:
+            return [((west + wide / 2) % 360 - 180, -south - high / 2)] * count
+        if kind == 1:
+            shares = [0.05 + 0.9 * (number % 2) for number in range(count)]
+            return [(west + wide * share, south + high * share) for share in shares]
+        size = self.draw.choice([1, 1, 0.1, 0.01])
+        x, y = self.draw.uniform(west, east - size * wide), self.draw.uniform(south, north - size * high)
+        return [(x + self.draw.uniform(0, size * wide), y + self.draw.uniform(0, size * high)) for _ in range(count)]
 
     def ask(self, asked):
         """The units that a request has spent."""
@@ -109,19 +119,6 @@ class Climber:
         self.most = max(self.most, units)
         self.rows.append((units, seconds, size, end, target))
         return units
-
-
-def drawn_places(box, draw, count):
-    """Places on a network: all over it, near together, in two corners in turn, or on the other side of the earth."""
-    west, south, east, north = box
-    wide, high, kind = east - west, north - south, draw.randrange(8)
-    if kind == 0:
-        return [((west + wide / 2) % 360 - 180, -south - high / 2)] * count
-    if kind == 1:
-        return [(west + wide * (0.05 + 0.9 * (number % 2)), south + high * (0.05 + 0.9 * (number % 2))) for number in range(count)]
-    size = draw.choice([1, 1, 0.1, 0.01])
-    x, y = draw.uniform(west, east - size * wide), draw.uniform(south, north - size * high)
-    return [(x + draw.uniform(0, size * wide), y + draw.uniform(0, size * high)) for _ in range(count)]
 
 
 def main(prefix, seconds):

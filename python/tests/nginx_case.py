@@ -68,11 +68,3 @@ class NginxCase(ServiceCase):
             stream = stack.enter_context(socket.create_connection(("127.0.0.1", self.port), SECONDS))
             stream.sendall(f"POST {path} HTTP/1.1\r\n{fields}\r\n\r\n".encode())
             self.assertIn(b" 100 ", stream.recv(64))  # (which it sends once it has counted)
-
-    def log(self, count):
-        """The lines of nginx's log, once there are this many: they are written later than the answers."""
-        def lines():
-            return (self.folder / "domethyme.log").read_text().splitlines()
-
-        self.wait_for(lambda: len(lines()) >= count)
-        return lines()

@@ -4,14 +4,15 @@ import http.client
 import json
 import os
 import pathlib
+import random
 import re
+import signal
 import socket
 import subprocess
 import sys
 import threading
 import time
-import unittest.mock
-from typing import BinaryIO, NamedTuple
+from typing import NamedTuple
 
 from tool_case import PYTHON, SECONDS, TOOLS, VILLAGE, ToolCase, end
 
@@ -23,9 +24,19 @@ from domethyme.dimacs import read_graph
 MOST_GROWN, ROUNDS = 2048, 6
 # The type of the body of a batch.
 NDJSON = {"Content-Type": "application/x-ndjson"}
-# What a service begins with that a test changes; and one whose workers wait for the heads of connections however long that takes.
-IMPORT = f"import sys\nsys.path.insert(0, {str(PYTHON)!r})\nfrom domethyme_service import command, gunicorn_app\n"
-PATIENT = sys.executable, "-c", f"{IMPORT}from domethyme_service import worker\nworker.HEAD_SECONDS = worker.DRAIN_SECONDS = 1e6\ncommand.main()"
+# The environment of a service that waits for what is under way, however long that takes, before it ends.
+NO_END = {"GUNICORN_CMD_ARGS": f"--graceful-timeout={10 * SECONDS}"}
+
+
+def changed(script):
+    """The command of a service that begins with a script."""
+    before = f"import gc, os, pathlib, signal, sys, time\nsys.path.insert(0, {str(PYTHON)!r})\n"
+    before += "from domethyme_service import command, gunicorn_app, node_queries, worker\n"
+    return sys.executable, "-c", f"{before}{script}\ncommand.main()"
+
+
+# One whose workers wait for the heads of connections however long that takes.
+PATIENT = changed("worker.HEAD_SECONDS = worker.DRAIN_SECONDS = 1e6")
 
 
 class Answer(NamedTuple):
@@ -34,6 +45,29 @@ class Answer(NamedTuple):
     status: int
     fields: dict[str, str]
     body: bytes
+
+
+class Client(threading.Thread):
+    """Asks what has right answers, in any order, each on a connection of its own, until it is over. Counts those that it gets, and
+    keeps what is lost, without an answer or by 503, and what is wrong."""
+
+    def __init__(self, case, answers, number):
+        super().__init__(daemon=True)
+        self.case, self.answers, self.draw, self.is_over = case, [*answers.items()], random.Random(number), threading.Event()
+        self.right, self.lost, self.wrong = 0, [], []
+
+    def run(self):
+        while not self.is_over.wait(0.01):
+            asked, answers = self.draw.choice(self.answers)
+            try:
+                found = self.case.ask(*asked)
+            except (OSError, http.client.HTTPException) as error:
+                self.lost.append((asked[0], error))
+                continue
+            if found in answers:
+                self.right += 1
+            else:
+                (self.lost if found[0] == 503 else self.wrong).append((asked[0], found))
 
 
 class ServiceCase(ToolCase):
@@ -50,12 +84,20 @@ class ServiceCase(ToolCase):
         domethyme.prepare(self.folder / "v.gr", self.folder / "v.rch", workers=1).close()
         self.graph = read_graph(self.folder / "v.gr")
 
-    def serve(self, *words, descriptors=(), reads_log=True):
+    def prepare(self, factor, name="v.rch"):
+        """Writes a hierarchy with this many times the village's weights."""
+        graph = self.graph
+        weights = [factor * weight for weight in graph.weights]
+        domethyme.write_graph(self.folder / "n.gr", graph.starts, graph.ends, weights, nodes=graph.nodes)
+        domethyme.prepare(self.folder / "n.gr", self.folder / name, workers=1).close()
+
+    def serve(self, *words, descriptors=(), reads_log=True, environment={}):
         """Starts the service, and returns its process, the arbiter's, once it listens at `self.port`. What it says then is read on,
         or left."""
         where = () if "--bind" in words else ("--port", "0")
         given = [*self.command, self.folder / "v.rch", *where, "--allowed-host", "x", *words]
-        process = subprocess.Popen(list(map(str, given)), stderr=subprocess.PIPE, text=True, pass_fds=descriptors)
+        more = {"pass_fds": descriptors, "env": os.environ | environment}
+        process = subprocess.Popen([*map(str, given)], stderr=subprocess.PIPE, text=True, **more)
         self.addCleanup(end, process)
         self.said = []
         for line in process.stderr:
@@ -70,15 +112,27 @@ class ServiceCase(ToolCase):
 
     def ask(self, path, method="GET", body=None, headers=None):
         """The status and the body of an answer, as JSON where it is JSON."""
-        connection = http.client.HTTPConnection("127.0.0.1", self.port, timeout=SECONDS)
-        try:
+        with contextlib.closing(http.client.HTTPConnection("127.0.0.1", self.port, timeout=SECONDS)) as connection:
             connection.request(method, path, body, {**(NDJSON if method == "POST" else {}), **(headers or {})})
             answer = connection.getresponse()
             text = answer.read().decode()
-            self.headers = dict(answer.getheaders())
-            return answer.status, json.loads(text) if "/json" in self.headers["Content-Type"] else text
+        self.headers = dict(answer.getheaders())
+        return answer.status, json.loads(text) if "/json" in self.headers["Content-Type"] else text
+
+    @contextlib.contextmanager
+    def asking(self, answers, count=4):
+        """Clients that ask during the block; none may get a wrong answer."""
+        clients = [Client(self, answers, number) for number in range(count)]
+        for each in clients:
+            each.start()
+        try:
+            yield clients
         finally:
-            connection.close()
+            for each in clients:
+                each.is_over.set()
+            for each in clients:
+                each.join()
+        self.assertEqual([each.wrong for each in clients], [[]] * count)
 
     def raw(self, sent, half_close=False):
         """All that the service sends to bytes on a connection, until it closes."""
@@ -86,10 +140,7 @@ class ServiceCase(ToolCase):
             stream.sendall(sent)
             if half_close:
                 stream.shutdown(socket.SHUT_WR)
-            parts = []
-            while part := stream.recv(1 << 16):
-                parts.append(part)
-        return b"".join(parts)
+            return b"".join(iter(lambda: stream.recv(1 << 16), b""))
 
     def wait_for(self, what):
         """Waits until a condition is true; fails with the service's log after minutes."""
@@ -97,6 +148,21 @@ class ServiceCase(ToolCase):
         while not what():
             self.assertLess(time.monotonic(), end, self.said[-20:])
             time.sleep(0.05)
+
+    def says(self, text):
+        """How many lines of the log have a text, a regular expression."""
+        return sum(re.search(text, line) is not None for line in self.said)
+
+    def reload(self, process, says=""):
+        """Has the service read its files again, and waits until its log says how that ended: well, if it isn't named."""
+        says = says or f"reloaded, {self.graph.nodes} nodes\n"
+        before = self.says(says)
+        process.send_signal(signal.SIGHUP)
+        self.wait_for(lambda: self.says(says) > before)
+
+    def stop(self, process):
+        process.send_signal(signal.SIGTERM)
+        self.assertEqual(process.wait(SECONDS), 0)
 
     def assert_level(self, process, act):
         """Calls `act` in rounds, until one in which no worker grows; fails if memory grows in each round."""
@@ -117,69 +183,21 @@ class ServiceCase(ToolCase):
         return float(found[1]) if found else 0.0
 
 
-@contextlib.contextmanager
-def without_end():
-    """A service that starts here has no limit of the time that it takes to end: it waits for what is under way."""
-    with unittest.mock.patch.dict(os.environ, GUNICORN_CMD_ARGS=f"--graceful-timeout={10 * SECONDS}"):
-        yield
-
-
-def read_answer(file: BinaryIO, method: str = "GET") -> Answer:
-    """The next answer of a connection that is read as a file. Raises EOFError if the connection ends before it is
-    complete."""
-    status = line_of(file).split(b" ", 2)
-    fields = dict(iter(lambda: field_of(line_of(file)), ("", "")))
-    if method == "HEAD":
-        body = b""
-    elif fields.get("transfer-encoding") == "chunked":
-        body = b"".join(iter(lambda: part_of(file), b""))
-    else:
-        body = whole(file, int(fields["content-length"]))
-    return Answer(int(status[1]), fields, body)
-
-
-def line_of(file: BinaryIO) -> bytes:
-    line = file.readline()
-    if not line.endswith(b"\r\n"):
-        raise EOFError(f"an answer isn't whole: {line!r}")
-    return line.removesuffix(b"\r\n")
-
-
-def field_of(line: bytes) -> tuple[str, str]:
-    name, _, value = line.decode("ascii").partition(": ")
-    return name.lower(), value
-
-
-def part_of(file: BinaryIO) -> bytes:
-    """The next chunk of a body; an empty one is its end."""
-    part = whole(file, int(line_of(file), 16))
-    line_of(file)
-    return part
-
-
-def whole(file: BinaryIO, count: int) -> bytes:
-    found = file.read(count)
-    if len(found) != count:
-        raise EOFError("a body isn't whole")
-    return found
-
-
-def children_of(number: int) -> list[int]:
-    """The children of a process."""
-    found = []
-    for path in pathlib.Path("/proc").glob("[0-9]*/stat"):
-        try:
-            text = path.read_text()
-        except OSError:
-            continue
-        if int(text.rpartition(")")[2].split()[1]) == number:
-            found.append(int(path.parent.name))
-    return sorted(found)
+def read_answer(stream: socket.socket) -> Answer:
+    """The answer on a connection; raises an HTTPException if that ends before it is complete."""
+    response = http.client.HTTPResponse(stream)
+    response.begin()
+    return Answer(response.status, {name.lower(): value for name, value in response.getheaders()}, response.read())
 
 
 def workers_of(process: "subprocess.Popen[str]") -> list[int]:
     """The workers of a service, which its arbiter has forked."""
-    return children_of(process.pid)
+    found = []
+    for path in pathlib.Path("/proc").glob("[0-9]*/stat"):
+        with contextlib.suppress(OSError):
+            if int(path.read_text().rpartition(")")[2].split()[1]) == process.pid:
+                found.append(int(path.parent.name))
+    return sorted(found)
 
 
 def resident(number: int) -> int:

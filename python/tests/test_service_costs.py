@@ -8,7 +8,6 @@ import math
 import os
 import random
 import re
-import resource
 import signal
 import socket
 import subprocess
@@ -23,8 +22,7 @@ from draws import drawn
 from gunicorn.config import Config
 from hypothesis import given
 from hypothesis import strategies as st
-from nginx_case import NginxCase
-from service_case import IMPORT, ServiceCase, workers_of
+from service_case import ServiceCase, changed, workers_of
 from test_generated_service import ask, environ_of, open_service
 from tool_case import PYTHON, ROOT, SECONDS
 
@@ -161,13 +159,13 @@ def test_a_meter_ends_what_costs_too_much():
     with pytest.raises(NeedsSlot):
         meter.begin(SHORT + 1, False)
     meter.begin(SHORT + 1, True)
-    with pytest.raises(RequestError, match="costs more than") as raised:
+    with pytest.raises(RequestError, match="costs more than 10,000,000 units:") as raised:
         for _ in range(MOST):
             meter.spend(Work.ROAD, 1000)
     assert f"and {Work.ROAD.units} for each road that is looked at" in " ".join(PAGE.split())
     assert raised.value.code == "TooBig" and MOST < meter.spent <= MOST + 1000 * Work.ROAD.units
     assert max(later - now for now, later in itertools.pairwise(ticks)) < 50_000
-    with pytest.raises(RequestError, match="would cost"):
+    with pytest.raises(RequestError, match="would cost 10,000,001 units, and may cost 10,000,000:"):
         meter.begin(MOST + 1, True)
     with pytest.raises(NeedsSlot):
         meter.begin(100 * MOST, False, True)
@@ -288,23 +286,18 @@ class Waiting:
             yield
 
 
-def test_nobody_waits_longer_than_its_limit():
-    """Ten requests of nine seconds each: nine wait for five seconds and are refused, though the worker is at work; and it reports."""
-    case = Waiting(9.0)
+@pytest.mark.parametrize("seconds, served", [(9.0, 1), (0.1, 10)])
+def test_nobody_waits_longer_than_its_limit(seconds, served):
+    """Of ten requests one is answered in each turn. Those that have waited for five seconds are refused, though the worker is at
+    work, and it reports."""
+    case, turns = Waiting(seconds), 0
     with case.clock():
         case.worker.queue += [case.connection() for _ in range(10)]
         while case.worker.take_turn():
-            pass
-    assert (len(case.served), len(case.refused), case.now) == (1, 9, pytest.approx(9.0))
-    assert case.worker.row.long_requests_refused_total == 9
-
-
-def test_one_waiting_request_for_each_turn():
-    case = Waiting(0.1)
-    with case.clock():
-        case.worker.queue += [case.connection() for _ in range(5)]
-        for left in range(4, -1, -1):
-            assert case.worker.take_turn() and len(case.worker.queue) == left
+            turns += 1
+            assert len(case.served) == turns
+    assert (len(case.served), len(case.refused), case.now) == (served, 10 - served, pytest.approx(served * seconds))
+    assert case.worker.row.long_requests_refused_total == 10 - served
 
 
 def test_the_queue_is_bounded():
@@ -405,14 +398,14 @@ def test_a_batch_frees_its_slot_between_blocks():
         case.worker.serve_or_queue(batch)
         assert (case.worker.queue, case.worker.slots.is_taken, case.now) == ([batch], False, pytest.approx(0.3))
         case.worker.serve_or_queue(second)
-        case.worker.serve_or_queue(short)
-        assert case.served.pop() == short
+        assert case.worker.row.requests_waiting == 1
         case.worker.queue.append(other)
         case.other.requests_waiting = 1
-        assert case.worker.take_turn() and case.worker.queue == [second, other, batch]
+        assert case.worker.take_turn() and case.worker.queue == [second, other, batch] and batch.earliest > case.now
         assert case.worker.take_turn() and case.worker.queue == [second, batch] and case.served == [other]
+        case.worker.serve_or_queue(short)
         case.now = batch.earliest - 0.01
-        assert not case.worker.take_turn()
+        assert not case.worker.take_turn() and case.served.pop() == short
         case.now += 0.02
         assert case.worker.take_turn() and not case.worker.slots.is_taken
         case.other.requests_waiting = 0
@@ -422,7 +415,7 @@ def test_a_batch_frees_its_slot_between_blocks():
         assert case.served == [other, batch]
         while case.worker.take_turn():
             case.now += 0.02
-    assert (case.served, case.refused) == ([other, batch, second], [])
+    assert (case.served, case.refused, case.worker.row.requests_waiting) == ([other, batch, second], [], 0)
 
 
 def test_a_line_that_was_cut():
@@ -457,18 +450,8 @@ def test_where_lines_go(tmp_path, kind):
         os.close(end)
 
 
-def refusing(folder, name):
-    """A command whose kernel refuses `os.NAME` while a file is there."""
-    script = f"import os, pathlib\nown, flag = os.{name}, pathlib.Path({str(folder / 'refuse')!r})\n"
-    script += f"def refuse(*words):\n if flag.exists():\n  raise OSError(11, os.strerror(11))\n return own(*words)\nos.{name} = refuse\n"
-    return sys.executable, "-c", f"{IMPORT}{script}command.main()"
-
-
 class ArbiterTests(ServiceCase):
     """The service outlives what the kernel refuses, and leaves to others what is theirs."""
-
-    def says(self, text):
-        return sum(text in line for line in self.said)
 
     def test_the_dearest_requests(self):
         """Whatever is asked, and however it is changed to cost more, it ends by its units: it is answered, refused as TooBig, or needs a
@@ -481,7 +464,9 @@ class ArbiterTests(ServiceCase):
         twice = f"/table/v1/car/0.0003,0;0.0077,0?annotations=distance&{TWICE}"
         assert ask(service, twice)[0] == 200 and service.meter.counts[Work.SUM] <= 4 and service.meter.counts[Work.PLACE] == 2
         assert ask(service, "/nearest/v1/car/-179.99,0.01")[1]["code"] == "NoSegment" and not service.meter.counts[Work.ROAD]
-        assert ask(service, "/nearest/v1/car/-179.99,0.01?radiuses=unlimited")[0] == 200 and service.meter.counts[Work.ROAD] > 10
+        for path, count in (("/nearest/v1/car/{}?radiuses={}", 1), ("/route/v1/car/{}?radiuses={}&overview=false", 500)):
+            each = (";".join([word] * count) for word in ("-179.99,0.01", "unlimited"))
+            assert ask(service, path.format(*each))[0] == 200 and service.meter.counts[Work.ROAD] > 10
 
     def test_what_requests_are_to_cost_and_do(self):
         """By the formulas of docs/SERVICE.md before any work, a batch by its bytes; and what is counted then. A batch that needs a
@@ -551,67 +536,53 @@ class ArbiterTests(ServiceCase):
 
     def test_processes_that_the_kernel_refuses(self):
         """At a reload, and for a worker that has ended: the old ones stay, and it is tried again."""
+        flag = self.folder / "refuse"
+        script = f"own, flag = os.NAME, pathlib.Path({str(flag)!r})\ndef refuse(*words):\n if flag.exists():\n"
+        script += "  raise OSError(11, os.strerror(11))\n return own(*words)\nos.NAME = refuse\n"
         for name in ("fork", "pipe"):
             with self.subTest(name=name):
-                self.command = refusing(self.folder, name)
+                self.command = changed(script.replace("NAME", name))
                 process = self.serve()
-                (self.folder / "refuse").touch()
-                process.send_signal(signal.SIGHUP)
-                self.wait_for(lambda: self.says("it is tried again"))
+                flag.touch()
+                self.reload(process, "it is tried again")
                 os.kill(workers_of(process)[0], signal.SIGKILL)
                 self.wait_for(lambda: self.says("has ended"))
                 self.assertEqual((self.ask("/health")[0], self.value("last_reload_failed")), (200, 1))
-                (self.folder / "refuse").unlink()
+                flag.unlink()
                 self.wait_for(lambda: self.value("reloads_total") == 1 and self.value("workers") == 4)
                 self.assertEqual((self.value("last_reload_failed"), self.value("reload_failures_total")), (0, 1))
-                process.send_signal(signal.SIGTERM)
-                self.assertEqual(process.wait(SECONDS), 0)
+                self.stop(process)
 
     def test_a_worker_that_ends_while_they_are_counted(self):
         """The arbiter handles its signal between any two steps; it stays, and replaces the worker."""
-        flag, script = self.folder / "kill", "import os, pathlib, time\nfrom domethyme_service.worker import Worker\n"
-        script += f"flag, own = pathlib.Path({str(flag)!r}), gunicorn_app.Arbiter.manage_workers\n"
+        flag = self.folder / "kill"
+        script = f"flag, own = pathlib.Path({str(flag)!r}), gunicorn_app.Arbiter.manage_workers\n"
         script += "def manage(arbiter):\n global workers\n workers = arbiter.WORKERS\n own(arbiter)\n"
         script += "def generation(worker):\n if flag.exists():\n  flag.unlink()\n  os.kill(max(workers), 9)\n  count = len(workers)\n"
         script += "  while len(workers) == count:\n   time.sleep(0.01)\n return worker.number\n"
-        script += "Worker.number, Worker.generation = 0, property(generation, lambda worker, number: setattr(worker, 'number', number))\n"
+        script += "worker.Worker.number = 0\n"
+        script += "worker.Worker.generation = property(generation, lambda worker, number: setattr(worker, 'number', number))\n"
         script += "gunicorn_app.Arbiter.manage_workers = manage\n"
-        self.command = sys.executable, "-c", f"{IMPORT}{script}command.main()"
+        self.command = changed(script)
         process = self.serve()
         flag.touch()
         self.wait_for(lambda: self.says("has ended: another one is started"))
         self.wait_for(lambda: self.value("workers") == 4)
-        process.send_signal(signal.SIGTERM)
-        self.assertEqual(process.wait(SECONDS), 0)
-
-    def test_two_services_at_one_path(self):
-        """The second one begins when the path of the first one is gone, whose end leaves it alone."""
-        path = self.folder / "serve.sock"
-        first = self.serve("--bind", f"unix:{path}")
-        for each in (path, self.folder / "serve.sock.probe"):
-            each.unlink()
-        self.serve("--bind", f"unix:{path}")
-        first.send_signal(signal.SIGTERM)
-        self.assertEqual(first.wait(SECONDS), 0)
-        with socket.socket(socket.AF_UNIX) as stream:
-            stream.connect(str(path))
-            stream.sendall(b"GET /health HTTP/1.1\r\nHost: x\r\n\r\n")
-            self.assertIn(b" 200 ", stream.makefile("rb").readline())
+        self.stop(process)
 
     def test_a_step_of_the_clock(self):
         """By an hour, to either side, as the arbiter and its workers see it: no worker is taken for a silent one."""
         step = self.folder / "step"
         step.write_text("0")
-        script = f"import pathlib, time\nown, step = time.time, pathlib.Path({str(step)!r})\ntime.time = lambda: own() + int(step.read_text() or 0)\n"
-        self.command = sys.executable, "-c", f"{IMPORT}{script}command.main()"
+        script = f"own, step = time.time, pathlib.Path({str(step)!r})\n"
+        self.command = changed(f"{script}time.time = lambda: own() + int(step.read_text() or 0)")
         process = self.serve()
         before = workers_of(process)
         for seconds in (3600, -3600):
             step.write_text(str(seconds))
             time.sleep(2.5)  # (the arbiter looks each second)
             self.assertEqual((workers_of(process), self.says("WORKER TIMEOUT")), (before, 0))
-        process.send_signal(signal.SIGTERM)
-        self.assertEqual(process.wait(SECONDS), 0)
+        self.stop(process)
 
     def test_a_log_that_nobody_reads(self):
         """Requests are answered while nobody reads standard error, a pipe that is soon full; and the service ends."""
@@ -619,61 +590,4 @@ class ArbiterTests(ServiceCase):
         for _ in range(1000):
             self.assertEqual(self.ask("/health")[0], 200)
         self.assertGreater(self.value("log_lines_lost_total"), 0)
-        process.send_signal(signal.SIGTERM)
-        self.assertEqual(process.wait(SECONDS), 0)
-
-
-class FairTests(NginxCase):
-    """One public client, and others, through nginx."""
-
-    def test_one_client_leaves_workers_to_others(self):
-        """Eight requests of one public client that don't end hold two of the four workers; another one's are answered."""
-        script = "import os, time\nfrom domethyme_service import node_queries, worker\nworker.ANSWER_SECONDS, arbiter = 1e6, os.getpid()\n"
-        script += "own = node_queries.length_answer\ndef busy(queries, source, target):\n if source != 1:\n  return own(queries, source, target)\n"
-        script += f" os.getppid() != arbiter and os._exit(0)\n os.mkfifo(f'{self.folder}/busy-{{os.getpid()}}')\n"
-        script += " while os.getppid() == arbiter:\n  time.sleep(0.1)\n os._exit(0)\n"
-        script += "node_queries.length_answer = busy\n"
-        self.command = sys.executable, "-c", f"{IMPORT}{script}command.main()"
-        self.serve_behind_nginx()
-        with contextlib.ExitStack() as stack:
-            for _ in range(8):
-                stream = stack.enter_context(socket.create_connection(("127.0.0.1", self.port), SECONDS))
-                stream.sendall(b"GET /nodes/length?from=2&to=1 HTTP/1.1\r\nHost: x\r\nX-Test-Address: 203.0.113.9\r\n\r\n")
-            self.wait_for(lambda: len([*self.folder.glob("busy-*")]) == 2)
-            for address in ("203.0.113.10", "10.0.0.1"):
-                for _ in range(10):
-                    self.assertEqual(self.ask("/nodes/length?from=1&to=7", headers={"X-Test-Address": address})[0], 200)
-            self.assertEqual(len([*self.folder.glob("busy-*")]), 2)
-
-    def test_a_client_of_ipv6_is_its_network(self):
-        """Requests from as many addresses of one /64 have the rate of one client, here of one more in a minute; another /64 has its own."""
-        self.serve_behind_nginx(instead={"rate=100r/s": "rate=1r/m"})
-        statuses = {}
-        for network in ("2001:db8:1:2:", "2001:db8:1::", "2001:db8:1:3:"):
-            statuses[network] = [
-                self.ask("/nothing", headers={"X-Test-Address": f"{network}{number:x}" + (":1:1:1" if network[-2] != ":" else "")})[0]
-                for number in range(1, 231)
-            ]
-        for network, found in statuses.items():
-            self.assertEqual((found[:201], 429 in found), ([404] * 201, True), network)
-
-    def test_heads_that_never_end(self):
-        """1,600 of one client, which nginx doesn't count yet, with the settings of docs/OPERATING.md: others are answered."""
-        hard = resource.getrlimit(resource.RLIMIT_NOFILE)[1]
-        resource.setrlimit(resource.RLIMIT_NOFILE, (4096 if hard == resource.RLIM_INFINITY else min(4096, hard), hard))
-        self.serve_behind_nginx()
-        with contextlib.ExitStack() as stack:
-            for _ in range(1600):
-                stream = stack.enter_context(socket.create_connection(("127.0.0.1", self.port), SECONDS))
-                stream.sendall(b"GET /health HTTP/1.1\r\nHost: x\r\nX-")
-            for _ in range(20):
-                self.assertEqual(self.ask("/nodes/length?from=1&to=7")[0], 200)
-
-    def test_connections_for_what_is_long(self):
-        """A public client has four of them; its other requests, and those of others, are answered."""
-        self.serve_behind_nginx(instead={"client_body_timeout 10s": f"client_body_timeout {SECONDS}s"})
-        mine, other = {"X-Test-Address": "203.0.113.9"}, {"X-Test-Address": "203.0.113.10"}
-        with contextlib.ExitStack() as stack:
-            self.hold(stack, "/nodes/lengths", "203.0.113.9", 4)
-            self.assertEqual([self.ask("/table/v1/car/0,0", headers=each)[0] for each in (mine, other)], [429, 200])
-            self.assertEqual(self.ask("/health", headers=mine)[0], 200)
+        self.stop(process)

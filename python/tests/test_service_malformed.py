@@ -369,14 +369,15 @@ def test_requests_at_the_limits_and_fields_of_answers(tmp_path: pathlib.Path) ->
     assert {classify_head(head[:end]) for end in range(-9, 0)} == {HeadState.PARTIAL}
     assert get("/health", "", version="1.0").status == 200
     policies = {"referrer-policy": "no-referrer", "cache-control": "no-cache"}
-    kinds = {".css": "text/css", ".js": "text/javascript", ".svg": "image/svg+xml", ".html": "text/html"}
+    kinds = {f".{name}": f"text/{kind}; charset=utf-8" for name, kind in (("css", "css"), ("js", "javascript"), ("html", "html"))}
+    kinds[".svg"] = "image/svg+xml"
     files = {f"/map/{file.name}": file for file in (PYTHON / "domethyme_service/page").iterdir() if file.name != "index.html"}
     for path, file in {"/": PYTHON / "domethyme_service/page/index.html", **files, "/health": None, "/nothing": None}.items():
         found = get(path)
         assert get(path, method="HEAD") == found._replace(body=b"")
         assert (found.fields["x-content-type-options"], int(found.fields["content-length"])) == ("nosniff", len(found.body))
         if file is not None:
-            assert (found.body, found.fields["content-type"].partition(";")[0]) == (file.read_bytes(), kinds[file.suffix])
+            assert (found.body, found.fields["content-type"]) == (file.read_bytes(), kinds[file.suffix])
             assert found.fields.items() >= policies.items() and "default-src 'none'" in found.fields["content-security-policy"]
     about, size = get("/map/about"), case.service.size
     wanted = {"box": [0, 0, 12, 16], "attribution": "© the town", "deepest": 16, "grid": 1024, "unit": "duration"}
@@ -412,10 +413,10 @@ class MalformedTests(ServiceCase):
         self.assertFalse([line for line in self.said if "Traceback" in line], self.said)
 
     def ask_one(self, request: bytes) -> Answer:
-        with socket.create_connection(("127.0.0.1", self.port), SECONDS) as stream, stream.makefile("rb") as file:
+        with socket.create_connection(("127.0.0.1", self.port), SECONDS) as stream:
             with contextlib.suppress(ConnectionError):
                 stream.sendall(request)
-            return read_answer(file)
+            return read_answer(stream)
 
     def look_at(self, case: Case, answer: Answer) -> None:
         """Asserts the error of the kind, as JSON."""

@@ -1,19 +1,14 @@
 """The service's signals under a small load: SIGHUP loads a new hierarchy, SIGTERM ends it, and no request is lost."""
-import contextlib
-import http.client
-import json
 import logging
 import os
 import pathlib
 import signal
 import socket
-import sys
-import threading
 import time
 from unittest import mock
 
 import pytest
-from service_case import IMPORT, PATIENT, ServiceCase, without_end, workers_of
+from service_case import NO_END, PATIENT, ServiceCase, changed, workers_of
 from tool_case import SECONDS, is_running
 
 import domethyme
@@ -27,92 +22,41 @@ from domethyme_service.worker import Worker
 PATH = "/nodes/length?from=1&to=2"
 
 
-class Client(threading.Thread):
-    """Sends requests on one connection until it is stopped, or the service closes; stores each length and each loss."""
-
-    def __init__(self, port):
-        super().__init__(daemon=True)
-        self.port, self.lengths, self.lost, self.stop = port, [], [], threading.Event()
-
-    def run(self):
-        connection = http.client.HTTPConnection("127.0.0.1", self.port, timeout=SECONDS)
-        with contextlib.closing(connection):
-            self.ask_by(connection)
-
-    def ask_by(self, connection):
-        while not self.stop.is_set():
-            try:
-                connection.request("GET", PATH)
-                answer = connection.getresponse()
-                self.lengths.append(json.loads(answer.read())["length"])
-            except (OSError, http.client.HTTPException, KeyError) as error:
-                self.lost.append(repr(error))
-                return
-            connection.close()  # (each connection has one request)
-
-
 class SignalTests(ServiceCase):
-    def clients(self, count=4):
-        clients = [Client(self.port) for _ in range(count)]
-        for client in clients:
-            client.start()
-        return clients
-
-    def finish(self, clients):
-        """Stops the clients; returns all their lengths, and asserts that none was lost."""
-        for client in clients:
-            client.stop.set()
-        for client in clients:
-            client.join()
-        self.assertEqual([client.lost for client in clients if client.lost], [])
-        return [client.lengths for client in clients]
-
-    def prepare(self, factor):
-        """Replaces the hierarchy by one with this many times the village's weights."""
-        graph = self.graph
-        weights = [factor * weight for weight in graph.weights]
-        domethyme.write_graph(self.folder / "n.gr", graph.starts, graph.ends, weights, nodes=graph.nodes)
-        domethyme.prepare(self.folder / "n.gr", self.folder / "v.rch", workers=1).close()
-
     def test_a_new_hierarchy(self):
         self.command = PATIENT
         process = self.serve()
         old = self.ask(PATH)[1]["length"]
-        clients = self.clients()
-        for factor in (2, 3):
-            opened = self.value("last_reload_timestamp_seconds")
-            self.prepare(factor)
-            process.send_signal(signal.SIGHUP)
-            self.wait_for(lambda: sum("reloaded" in line for line in self.said) == factor - 1)
-            self.assertEqual({self.ask(PATH)[1]["length"] for _ in range(20)}, {factor * old})
-            self.assertGreater(self.value("last_reload_timestamp_seconds"), opened)
-        for lengths in self.finish(clients):
-            self.assertLessEqual(set(lengths), {old, 2 * old, 3 * old})
+        answers = [(200, {"from": 1, "to": 2, "length": factor * old}) for factor in (1, 2, 3)]
+        with self.asking({(PATH,): answers}) as clients:
+            for factor in (2, 3):
+                opened = self.value("last_reload_timestamp_seconds")
+                self.prepare(factor)
+                self.reload(process)
+                self.assertEqual({self.ask(PATH)[1]["length"] for _ in range(20)}, {factor * old})
+                self.assertGreater(self.value("last_reload_timestamp_seconds"), opened)
+        self.assertEqual([client.lost for client in clients], [[]] * 4)
         self.wait_for(lambda: self.value("reloads_total") == 2)
 
     def test_a_file_that_changes_behind_its_trial(self):
         """A file that takes the hierarchy's name between the child's trial and the arbiter's opening is refused, though it is right;
         the next reload tries it, and the failed one is over."""
-        script = """
-import os
+        self.command = changed("""
 load = gunicorn_app.Application.load
 def late(app, paths=None):
     if paths is not None and os.path.exists(app.paths.hierarchy + ".new"):
         os.replace(app.paths.hierarchy + ".new", app.paths.hierarchy)
     return load(app, paths)
 gunicorn_app.Application.load = late
-command.main()
-"""
-        self.command = sys.executable, "-c", IMPORT + script
+""")
         process = self.serve()
         old = self.ask(PATH)[1]["length"]
         (self.folder / "kept").write_bytes((self.folder / "v.rch").read_bytes())
         self.prepare(2)
         os.replace(self.folder / "v.rch", self.folder / "v.rch.new")
         os.replace(self.folder / "kept", self.folder / "v.rch")
-        for factor, says, failed in ((1, "v.rch: has changed since it was tried", 1), (2, "reloaded, ", 0)):
-            process.send_signal(signal.SIGHUP)
-            self.wait_for(lambda says=says: any(says in line for line in self.said))
+        for factor, says, failed in ((1, "v.rch: has changed since it was tried", 1), (2, "", 0)):
+            self.reload(process, says)
             self.assertEqual(self.ask(PATH)[1]["length"], factor * old)
             self.wait_for(lambda failed=failed: self.value("last_reload_failed") == failed)
         self.assertEqual(self.value("reload_failures_total"), 1)
@@ -125,11 +69,9 @@ command.main()
         process = self.serve("--verify", right)
         old = self.ask(PATH)
         self.prepare(2)
-        process.send_signal(signal.SIGHUP)
-        self.wait_for(lambda: any("reload refused: " in line and "v.rch: not shown: bound" in line for line in self.said))
+        self.reload(process, "reload refused: .*v.rch: not shown: bound")
         self.assertEqual(self.ask(PATH), old)
-        words = ["domethyme-serve", self.folder / "v.rch", "--port", "0", "--verify", right]
-        ended = self.run_tool(*words, status=1)
+        ended = self.run_tool("domethyme-serve", "v.rch", "--port", "0", "--verify", right, status=1)
         self.assertIn("v.rch: not shown: bound", ended.stderr)
         # (the program reads it as an open descriptor, which messages don't name)
         self.assertNotIn("/proc/", ended.stderr + "".join(self.said))
@@ -146,9 +88,8 @@ command.main()
             checking.unlink(missing_ok=True)
             process.send_signal(signal.SIGHUP)
             self.wait_for(lambda: checking.exists() and checking.read_text().strip())
-            self.wait_for(lambda: any("reload: the files are read again\n" in line for line in self.said))
-            process.send_signal(signal.SIGHUP)
-            self.wait_for(lambda: any("are read again once the reload under way has ended" in line for line in self.said))
+            self.wait_for(lambda: self.says("reload: the files are read again\n"))
+            self.reload(process, "are read again once the reload under way has ended")
             check = int(checking.read_text())
             self.assertTrue(is_running(check))
             self.assertEqual(pathlib.Path(f"/proc/{check}/oom_score_adj").read_text(), "1000\n")
@@ -158,59 +99,51 @@ command.main()
     def test_sigterm_answers_accepted_requests(self):
         """Accepted requests are answered; a connection in the backlog is reset or refused."""
         self.command = PATIENT
-        with without_end():
-            process = self.serve()
-        right = self.ask(PATH)[1]["length"]
-        clients = self.clients()
-        self.wait_for(lambda: all(len(client.lengths) > 1 for client in clients))
-        process.send_signal(signal.SIGTERM)
-        self.assertEqual(process.wait(SECONDS), 0)
-        for client in clients:
-            client.join()
-            self.assertEqual((set(client.lengths), len(client.lost)), ({right}, 1))
-            self.assertRegex(client.lost[0], "Connection(Reset|Refused)Error")
+        process = self.serve(environment=NO_END)
+        with self.asking({(PATH,): [self.ask(PATH)]}) as clients:
+            self.wait_for(lambda: all(client.right > 1 for client in clients))
+            self.stop(process)
+        lost = {type(why) for client in clients for _, why in client.lost}
+        self.assertLessEqual(lost, {ConnectionResetError, ConnectionRefusedError})
 
     def test_workers_that_begin_at_the_end(self):
         """A worker that doesn't handle signals yet when the service ends, ends with it."""
-        slow = "own, worker.Worker.init_signals = worker.Worker.init_signals, lambda self: time.sleep(1) or own(self)\n"
-        imports = "import time\nfrom domethyme_service import worker\n"
-        self.command = (sys.executable, "-c", f"{IMPORT}{imports}{slow}command.main()")
-        with without_end():
-            process = self.serve()
-        process.send_signal(signal.SIGTERM)
-        self.assertEqual(process.wait(SECONDS), 0)
+        script = "own = worker.Worker.init_signals\nworker.Worker.init_signals = lambda self: time.sleep(1) or own(self)"
+        self.command = changed(script)
+        self.stop(self.serve(environment=NO_END))
 
     def test_an_idle_connection_does_not_hold_up_the_end(self):
-        with without_end():
-            process = self.serve()
+        process = self.serve(environment=NO_END)
         with socket.create_connection(("127.0.0.1", self.port), SECONDS) as idle:
             idle.sendall(b"GET")
             time.sleep(0.2)
-            process.send_signal(signal.SIGTERM)
-            self.assertEqual(process.wait(SECONDS), 0)
+            self.stop(process)
 
     def test_workers(self):
-        """A worker that is killed is replaced; SIGHUP and SIGTERM reach all; SIGTTIN and SIGTTOU change their number."""
+        """A worker that is killed is replaced; SIGHUP and SIGTERM reach all; SIGTTIN and SIGTTOU change their number. What all have
+        counted stays."""
         process = self.serve()
         workers = workers_of(process)
         self.assertEqual(len(workers), 4)
-        old = self.ask(PATH)[1]["length"]
+        old = [self.ask(PATH)[1]["length"] for _ in range(30)][0]
+        name = 'requests_total{endpoint="/nodes/length",status="200"}'
+        self.wait_for(lambda: self.value(name) == 30)
+        self.assertEqual({self.value(name) for _ in range(12)}, {30})
         os.kill(workers[0], signal.SIGKILL)
-        self.wait_for(lambda: any(f"worker {workers[0]} has ended: another one is started" in line for line in self.said))
+        self.wait_for(lambda: self.says(f"worker {workers[0]} has ended: another one is started"))
         self.wait_for(lambda: self.value("workers") == 4)
         self.assertEqual(self.value("worker_restarts_total"), 1)
         for number, count in ((signal.SIGTTIN, 5), (signal.SIGTTOU, 4)):
             process.send_signal(number)
             self.wait_for(lambda count=count: self.value("workers") == count)
         self.prepare(2)
-        process.send_signal(signal.SIGHUP)
-        self.wait_for(lambda: any("reloaded" in line for line in self.said))
+        self.reload(process)
+        self.assertEqual(self.value(name), 30)
         self.assertEqual({self.ask(PATH)[1]["length"] for _ in range(20)}, {2 * old})
         self.wait_for(lambda: len(workers_of(process)) == 4)
         self.assertEqual(self.value("worker_restarts_total"), 1)
         workers = workers_of(process)
-        process.send_signal(signal.SIGTERM)
-        self.assertEqual(process.wait(SECONDS), 0)
+        self.stop(process)
         self.assertFalse(any(pathlib.Path(f"/proc/{number}").exists() for number in workers))
 
     def test_the_worker_for_probes_stays(self):
@@ -226,21 +159,25 @@ command.main()
             for count in range(3, 7 - round_):  # (which a reload leaves)
                 process.send_signal(signal.SIGTTIN)
                 self.wait_for(lambda: len(workers_of(process)) == count)
-            process.send_signal(signal.SIGHUP)
-            self.wait_for(lambda: sum("reloaded" in line for line in self.said) == round_ + 1)
+            self.reload(process)
             self.wait_for(lambda: len(workers_of(process)) == count)
 
     def test_a_socket_that_is_in_use(self):
-        """Another service refuses it; it takes one that is left behind, and drops fields whose names gunicorn would take for others."""
-        process = self.serve("--bind", f"unix:{self.folder}/serve.sock")
-        words = ["domethyme-serve", self.folder / "v.rch", "--bind", f"unix:{self.folder}/serve.sock"]
-        said = self.run_tool(*words, status=1).stderr
-        self.assertIn(f"can't listen at unix:{self.folder}/serve.sock: another service does", said)
+        """Another service refuses it, and takes one that is left behind. Where its path has gone it makes its own, which the end of
+        the first one leaves alone. It drops fields whose names gunicorn would take for others."""
+        path = self.folder / "serve.sock"
+        first = self.serve("--bind", f"unix:{path}")
+        said = self.run_tool("domethyme-serve", "v.rch", "--bind", f"unix:{path}", status=1).stderr
+        self.assertIn(f"can't listen at unix:{path}: another service does", said)
+        for each in (path, self.folder / "serve.sock.probe"):
+            each.unlink()
+        second = self.serve("--bind", f"unix:{path}")
+        self.stop(first)
         self.assertEqual(self.health("serve.sock", "SCRIPT_NAME: /x\r\nX_Y: 1\r\n"), b"200")
-        process.kill()
-        process.wait()
-        self.assertTrue((self.folder / "serve.sock").is_socket())
-        self.serve("--bind", f"unix:{self.folder}/serve.sock")
+        second.kill()
+        second.wait()
+        self.assertTrue(path.is_socket())
+        self.serve("--bind", f"unix:{path}")
 
     def health(self, name, fields=""):
         """The status of /health at a unix socket."""
