@@ -130,11 +130,13 @@ def test_metrics_of_several_processes():
     found = metrics.SharedMetrics(4)
     for row, process, seconds in zip(found.rows[1:], (os.getpid(), os.getpid(), 1 << 30), (0.001, 0.0011, 30.5)):
         row.count("/table", 200, seconds)
-        row.process, row.queries_total = process, 2
+        row.process, row.queries_total = process, 1_234_567
     text = found.text(7)
     values = dict(line.removeprefix("domethyme_").rsplit(" ", 1) for line in text.splitlines() if line[0] != "#")
-    buckets = [values[f'request_seconds_bucket{{endpoint="/table",le="{bound}"}}'] for bound in ("0.001", "0.0025", "30.0", "+Inf")]
-    assert (buckets, values["nodes"], values["queries_total"], values["questions_total"]) == (["1", "2", "2", "3"], "7", "6", "6")
+    names = [f'bucket{{endpoint="/table",le="{bound}"}}' for bound in ("0.001", "0.0025", "30.0", "+Inf")]
+    times = [values[f"request_seconds_{name}"] for name in (*names, 'count{endpoint="/table"}', 'sum{endpoint="/table"}')]
+    assert times == ["1", "2", "2", "3", "3", "30.502100"]
+    assert [values[name] for name in ("nodes", "queries_total", "questions_total")] == ["7", "3703701", "3703701"]
     assert float(values["resident_memory_bytes"]) == pytest.approx(1024 * resident(os.getpid()), rel=0.1)
     kinds = re.findall(r"(?m)^# TYPE domethyme_(\S+) (\S+)$", text)
     old = "fronts questions_total front_restarts_total front_silences_total reloads_refused_total work_stopped_total"
