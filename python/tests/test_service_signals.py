@@ -231,8 +231,9 @@ def test_a_trial_that_has_ended(arbiter, caplog, report, says):
 
 
 def test_signals_while_files_are_opened(arbiter):
-    """One to end interrupts that, which is no failure; others wait."""
-    arbiter.signal(signal.SIGTERM, None)
+    """One to end interrupts that, which is no failure; others wait, one of each kind."""
+    for _ in range(2):
+        arbiter.signal(signal.SIGTERM, None)
 
     def load(_paths):
         arbiter.signal(signal.SIGHUP, None)
