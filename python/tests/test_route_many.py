@@ -239,7 +239,7 @@ def pairs_or_none(text):
 class OneMachineTests(RouteManyCase):
     def test_out_is_what_one_process_prints(self):
         """In parts of any size."""
-        for size, jobs in [(PART, 3), (1000, 1), (999, 1), (1001, 1), (334, 1)]:
+        for size, jobs in [(PART, 3), (1000, 1), (999, 1), (999_999_999, 1), (334, 1)]:
             with self.subTest(size=size):
                 ended = self.many("--jobs", jobs, "--pairs-per-part", size)
                 self.assertEqual((ended.stdout, ended.stderr), ("", ""))
@@ -249,8 +249,8 @@ class OneMachineTests(RouteManyCase):
         given = (self.folder / "pairs").read_text()
         self.run_tool("route_many", "network.rch", "-", "out", "--pairs-per-part", PART, "--jobs", 2, given=given)
         self.assert_answered()
-        ended = self.run_tool("route_many", "network.rch", "-", "out", status=5, given="p aux sp p2p 1\nq 1 x\n")
-        self.assertIn("  standard input:2: q 1 x", ended.stderr.splitlines())
+        said = self.run_tool("route_many", "network.rch", "-", "out", status=5, given="p aux sp p2p 1\nq 1 x\n").stderr
+        self.assertIn("  standard input:2: q 1 x", said.splitlines())
         self.run_tool("route_many", "network.rch", "-", "out", given="p aux sp p2p 0\n")
         self.assertEqual((self.folder / "out").read_text(), "")
 
@@ -285,7 +285,7 @@ class OneMachineTests(RouteManyCase):
         self.assert_refused("route_many", "network.rch", "pairs", "out", "--program", "no", says="no: is no program")
 
     def test_a_program_that_fails_at_a_part(self):
-        """By a signal, which is tried three times, or by its status: the same call goes on with what is done."""
+        """By a signal, after three times, or by its status: the same call goes on with what is done, and shows how much."""
         for trouble, status, says, times in (
             ("kill -9 $$", 1, "route_many: {} was ended by signal 9", 3),
             ("echo routecli: memory >&2; exit 6", 6, "routecli: memory", 1),
@@ -298,7 +298,13 @@ class OneMachineTests(RouteManyCase):
             self.assertEqual(ended.stderr, f"{says.format(program)}\n")
             self.assertEqual(self.answered(), ["000000.answers", "000001.answers"])
             (self.folder / "trouble").unlink()
-            self.many("--jobs", 1, "--program", program)
+            words = ["", "network.rch", "pairs", "out", "--pairs-per-part", str(PART), "--jobs", "1", "--program", str(program)]
+            with contextlib.chdir(self.folder), mock.patch("sys.argv", words), mock.patch("tqdm.tqdm") as bar:
+                route_many.main()
+            told = [call.kwargs.get(name) for call in bar.call_args_list for name in ("total", "initial")]
+            updates = [call.args[0] for call in bar.return_value.__enter__.return_value.update.call_args_list]
+            self.assertEqual(told, [1000, 2 * PART, len(self.wanted), None])
+            self.assertEqual((updates[:18], sum(updates[18:])), ([PART] * 18, len(self.wanted)))
             self.assertEqual([self.parts_begun().count(f"00000{part}.pairs") for part in (1, 2)], [1, times + 1])
             self.assert_answered()
             (self.folder / "begun").unlink()
@@ -325,15 +331,13 @@ def test_links_in_a_folder_that_any_may_write_to(tmp_path, name, says):
     assert (victim.read_text(), {*os.listdir(tmp_path)}) == ("as it was", {"out.parts", "victim"})
 
 
-@pytest.mark.parametrize("mode, owner, is_refused", [(0o777, 0, True), (0o775, 65534, True), (0o775, 0, False)])
+@pytest.mark.parametrize("mode, owner, is_refused", [(0o777, 0, True), (0o775, 65534, os.geteuid() == 0), (0o775, 0, False)])
 def test_a_folder_of_others(tmp_path, mode, owner, is_refused):
     folder = tmp_path / "out.parts"
     folder.mkdir()
     folder.chmod(mode)
-    if owner and os.geteuid() == 0:
+    if os.geteuid() == 0:
         os.chown(folder, owner, owner)
-    elif owner:
-        return
     raises = pytest.raises(ToolError, match="that you alone may") if is_refused else contextlib.nullcontext()
     with raises, parts.open_folder(str(tmp_path / "out"), False):
         pass
@@ -352,11 +356,11 @@ def test_a_folder_where_all_may_write_what_is_made(tmp_path):
 class RefusalTests(RouteManyCase):
     """Bad input: the program's own line, with its explanation, and status, and nothing is left."""
 
-    def assert_program_refuses(self, line, *words, status=5):
+    def assert_program_refuses(self, line, status=5):
         """Wants the line on standard error, explained, the status, and the folder, with an older `out`, as it was."""
         self.write("out", "of an earlier run\n")
         before = self.contents()
-        ended = self.many("--jobs", 3, *words, status=status)
+        ended = self.many("--jobs", 3, status=status)
         first, *more = ended.stderr.splitlines()
         self.assertEqual(first, line)
         self.assertTrue(all(each.startswith("  ") for each in more), more)
