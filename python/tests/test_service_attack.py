@@ -118,8 +118,7 @@ class RestartTests(ServiceCase):
         self.assertEqual(self.ask(PATH)[1]["length"], 2 * wanted[1]["length"])
 
     def test_a_restart_of_the_whole_service(self):
-        """Under systemd's socket activation, a connection that arrives while the service is down is answered by the next
-        one."""
+        """Under systemd's socket activation, a connection that arrives while the service is down is answered by the next one."""
         listening = socket.create_server(("127.0.0.1", 0))
         self.addCleanup(listening.close)
         os.dup2(listening.fileno(), 99)

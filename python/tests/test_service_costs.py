@@ -183,7 +183,7 @@ def test_a_meter_ends_what_costs_too_much():
 
 def test_slots_are_shared_fairly():
     """Each set of slots stands for a process: a client has half of the long ones, and a public one is answered by half of the workers."""
-    found, other = Slots(8), Slots(11)
+    found, other, third = Slots(8), Slots(11), Slots(8)
 
     def in_process(client, is_long, slots_of=found):
         """Whether a process gets its slots, which it keeps until the test ends."""
@@ -203,6 +203,7 @@ def test_slots_are_shared_fairly():
         assert [in_process(OTHER, True) for _ in range(3)] == [True, True, False]
         assert [in_process(OTHER, False) for _ in range(9)] == [True] * 9
         assert [in_process(OTHER, True, other) for _ in range(3)] == [True, True, False]
+        assert [in_process(A, is_long, third) for is_long in (False, False, True, True, True)] == [True, True, True, True, False]
         assert [in_process(Client(), True, other) for _ in range(4)] == [True, True, True, False]  # (which is no client)
         assert [in_process(B, True), in_process(B, False)] == [False, True]
         os.kill(children[0], signal.SIGKILL)

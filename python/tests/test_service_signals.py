@@ -62,8 +62,7 @@ gunicorn_app.Application.load = late
         self.assertEqual(self.value("reload_failures_total"), 1)
 
     def test_a_hierarchy_that_is_checked(self):
-        """A hierarchy that is right for its graph is served; one of other weights is rejected, at a reload and at a
-        start."""
+        """A hierarchy that is right for its graph is served; one of other weights is rejected, at a reload and at a start."""
         right = self.folder / "right.gr"
         right.write_bytes((self.folder / "v.gr").read_bytes())
         process = self.serve("--verify", right)
