@@ -71,7 +71,7 @@ class Application(BaseApplication):  # type: ignore[misc] # (gunicorn has no typ
         for name, value in vars(self.cfg.parser().parse_args(self.cfg.get_cmd_args_from_env())).items():
             if value is not None and name != "args":
                 self.cfg.set(name, value)
-        hooks = {hook.__name__: hook for hook in (pre_fork, child_exit, when_ready)}
+        hooks = {hook.__name__: hook for hook in (pre_fork, child_exit, when_ready, nworkers_changed)}
         for name, value in {**FIXED_SETTINGS, **hooks, "bind": self.bind, "workers": self.workers}.items():
             self.cfg.set(name, value)
         # (a request reads some twenty: as attributes they take a tenth of the time)
@@ -286,6 +286,11 @@ def child_exit(arbiter: Arbiter, worker: Worker) -> None:
     if not worker.is_stopping:
         arbiter.app.metrics.own.worker_restarts_total += 1
         log.error("worker %s has ended: another one is started", worker.pid)
+
+
+def nworkers_changed(arbiter: Arbiter, count: int, _before: int | None) -> None:
+    """SIGTTIN and SIGTTOU change the slots too."""
+    arbiter.app.slots.workers = count - arbiter.app.has_probe
 
 
 def when_ready(arbiter: Arbiter) -> None:

@@ -1,8 +1,10 @@
 """Slots: how many requests are answered at once, of all clients and of one, in all processes of the service."""
 import contextlib
+import ctypes
 import fcntl
 import functools
 import ipaddress
+import mmap
 import os
 from collections.abc import Iterable
 from typing import Any, NamedTuple
@@ -27,20 +29,29 @@ class Client(NamedTuple):
 
 
 class Slots:
-    """The slots of a service with so many workers, shared with the processes that are forked after it was made. A long request needs one
-    of as many as half of the workers, of which a client has at most half. A public client is answered by at most half of the
-    workers at once. A slot is a kernel lock on a byte of a file in memory, so those of a process that ends, however it
-    ends, are free again."""
+    """The slots of a service with so many workers, shared with the processes that are forked after it was made, as is the number. A long
+    request needs one of as many as half of the workers, of which a client has at most half. A public client is answered by at
+    most half of the workers at once. A slot is a kernel lock on a byte of a file in memory, so those of a process that ends,
+    however it ends, are free again."""
 
     def __init__(self, workers: int) -> None:
-        self.workers, self.long, self._file = workers, workers // 2, os.memfd_create("slots")
+        self._workers, self._file = ctypes.c_long.from_buffer(mmap.mmap(-1, mmap.PAGESIZE)), os.memfd_create("slots")
+        self.workers = workers
+
+    @property
+    def workers(self) -> int:
+        return self._workers.value
+
+    @workers.setter
+    def workers(self, count: int) -> None:
+        self._workers.value = count
 
     def acquire(self, client: Client, is_long: bool) -> bool:
         """Takes the slots of a request for this process, which has none; returns whether all were free."""
-        own = (1 + hash(client.network) % CLIENTS) * CLIENT_BYTES
-        taken = not client.is_public or self._take(own, half(self.workers))
+        own, most = (1 + hash(client.network) % CLIENTS) * CLIENT_BYTES, half(self.workers)
+        taken = not client.is_public or self._take(own, most)
         if is_long:
-            taken = taken and (not client.network or self._take(own + CLIENT_BYTES // 2, half(self.long))) and self._take(0, self.long)
+            taken = taken and (not client.network or self._take(own + CLIENT_BYTES // 2, half(most))) and self._take(0, most)
         if not taken:
             self.release()
         return taken

@@ -554,10 +554,8 @@ class TwoCallsTests(RouteManyCase):
             self.assertEqual(ended.stderr, f"route_many: {folder}: is of a call with another {what}: --restart drops it\n")
         for name in ["other.pairs", "other.rch"]:
             (self.folder / name).unlink()
-        self.assertEqual(
-            {path: text for path, text in self.contents().items() if path.name != "lock"},
-            {path: text for path, text in kept.items() if path.name != "lock"},
-        )
+        both = ({path: text for path, text in each.items() if path.name != "lock"} for each in (self.contents(), kept))
+        self.assertEqual(*both)
         for text in ("", "[]", "{}"):
             plan = self.write("out.parts/plan.json", text).resolve()
             self.assertEqual(self.many(status=1).stderr, f"route_many: {plan}: is no plan of route_many: --restart drops it\n")

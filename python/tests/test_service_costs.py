@@ -183,7 +183,7 @@ def test_a_meter_ends_what_costs_too_much():
 
 def test_slots_are_shared_fairly():
     """Each set of slots stands for a process: a client has half of the long ones, and a public one is answered by half of the workers."""
-    found, other, third = Slots(8), Slots(11), Slots(8)
+    found, other, third, fourth = Slots(8), Slots(11), Slots(8), Slots(8)
 
     def in_process(client, is_long, slots_of=found):
         """Whether a process gets its slots, which it keeps until the test ends."""
@@ -204,6 +204,8 @@ def test_slots_are_shared_fairly():
         assert [in_process(OTHER, False) for _ in range(9)] == [True] * 9
         assert [in_process(OTHER, True, other) for _ in range(3)] == [True, True, False]
         assert [in_process(A, is_long, third) for is_long in (False, False, True, True, True)] == [True, True, True, True, False]
+        in_process(A, True, mock.Mock(acquire=lambda *_: bool(setattr(fourth, "workers", 1))))  # (which all processes see)
+        assert [in_process(OTHER, True, fourth) for _ in range(2)] == [True, False]
         assert [in_process(Client(), True, other) for _ in range(4)] == [True, True, True, False]  # (which is no client)
         assert [in_process(B, True), in_process(B, False)] == [False, True]
         os.kill(children[0], signal.SIGKILL)

@@ -195,9 +195,10 @@ def test_settings_of_gunicorn(monkeypatch):
         app = Application(DatasetPaths("v.rch", None), None, ["fd://9"], 4, True, False)
         cfg = app.cfg
         assert (cfg.timeout, cfg.workers, cfg.bind, cfg.backlog, cfg.graceful_timeout) == (30, 5, ["fd://9"], 7, seconds)
-        assert cfg.worker_class is Worker and cfg.preload_app
+        assert cfg.worker_class is Worker and cfg.preload_app and app.slots.workers == 4
+        cfg.nworkers_changed(mock.Mock(app=app), 3, 5)
         # (where gunicorn would wait for a reader)
-        assert (app.notify_socket, os.environ.get("NOTIFY_SOCKET"), app.slots.workers) == ("/notify", None, 4)
+        assert (app.notify_socket, os.environ.get("NOTIFY_SOCKET"), app.slots.workers) == ("/notify", None, 2)
 
 
 @pytest.fixture
