@@ -72,9 +72,11 @@ class Keys:
     def of_rows(cls, rows: Iterable[tuple[Hashable, str]]) -> "Keys":
         """The key of each node, or None, and its place at a junction with turn restrictions, as `read` has them."""
         listed = list(rows)
-        sides = ("from", "to")
-        begins, ends = ({key: node for node, (key, end) in enumerate(listed) if end == side and key is not None} for side in sides)
-        return cls._choosing([key for key, _ in listed], begins, {key: node for key, node in ends.items() if key in begins})
+        counts = Counter(row for row in listed if row[1])
+        plain = {key for key, end in listed if not end and counts[key, "from"]}
+        is_one = {key for key, end in counts if counts[key, "from"] == 1 >= counts[key, "to"]} - plain - {None}
+        begins, ends = ({key: node for node, (key, end) in enumerate(listed) if end == side and key in is_one} for side in ("from", "to"))
+        return cls._choosing([key for key, _ in listed], begins, ends)
 
     @classmethod
     def _choosing(cls, names: list[Hashable], chosen: Mapping[Any, int], ends: Mapping[Any, int]) -> "Keys":

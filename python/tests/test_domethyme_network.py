@@ -6,6 +6,9 @@ from tool_case import VILLAGE, ToolCase
 
 import domethyme
 
+# Keys of several junctions, or beside one of a junction, by the ends of their nodes.
+SEVERAL = (3, ["from", "to", "from", "to"]), (4, ["", "from", "to"]), (5, ["from", "to", "to"])
+
 
 def test_a_relative_path(tmp_path, monkeypatch):
     """A network that was pickled has its files in another folder too, and leaves the same classes out."""
@@ -35,7 +38,8 @@ class NetworkTests(ToolCase):
             self.network.keys("name")
 
     def test_a_junction_with_turn_restrictions(self):
-        self.write("t.nodes.csv", "node,osm,lon,lat,ends\n1,7,0,0,from\n2,8,0.001,0,\n3,7,0,0,to\n4,7,0,0,no\n")
+        junctions = ["7,0,0,from", "8,0.001,0,", "7,0,0,to", "7,0,0,no", *(f"{each},0,1,{end}" for each, ends in SEVERAL for end in ends)]
+        self.write("t.nodes.csv", "\n".join(["node,osm,lon,lat,ends", *map("{},{}".format, range(1, 99), junctions), ""]))
         network = domethyme.Network(self.folder / "t")
         for place, nodes in ((0.0001, (0, 2)), (0.0009, (1, 1))):
             self.assertEqual(tuple(network.nearest(place, 0, side)[0] for side in ("from", "to")), nodes)
@@ -43,6 +47,9 @@ class NetworkTests(ToolCase):
                 old = [network.nearest(place, 0, end)[0] for end in (False, True)]
                 self.assertEqual([old, [network.nearest(place, 0, end=end)[0] for end in (False, True)]], [[*nodes]] * 2)
         self.assertEqual([network.keys().node(key) for key in (7, 8)], [0, 1])
+        for key, _ in SEVERAL:
+            with self.assertRaisesRegex(domethyme.NoSuchNode, f"{key} names several nodes"):
+                network.keys().node(key)
 
     def test_files_that_are_refused(self):
         self.write("a.nodes.csv", "node,osm,lon\n1,1,0\n")
