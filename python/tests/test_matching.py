@@ -13,13 +13,13 @@ from unittest import mock
 
 import numpy as np
 import pytest
-from draws import Drawn, drawn, write_network
+from draws import ORIGINS, Drawn, drawn, points_near, write_network
 from hypothesis import given
 from hypothesis import strategies as st
 from model import matching as model_matching
 from model.network import Ambiguous, Arc, Network, Node
 from model.request import Request
-from model.sphere import metres_between, nearest_on_segment
+from model.sphere import along, metres_between, nearest_on_segment, point_at
 from reach_case import Road, prepared
 from tool_case import VILLAGE, ToolCase
 
@@ -234,7 +234,7 @@ def is_way(found, way):
 
 def drawn_leg(draw, weights):
     """A leg along arcs of these weights, from a share of the first to one of the last."""
-    begin, end = (draw.choice([0.0, draw.random(), 1.0]) for _ in range(2))
+    begin, end = (draw(st.sampled_from([0.0, draw(st.integers(1, 96)) / 97, 1.0])) for _ in range(2))
     if len(weights) == 1:
         begin, end = sorted((begin, end))
     driven = [*weights[:-1], round(end * weights[-1])]
@@ -242,58 +242,57 @@ def drawn_leg(draw, weights):
     return Leg(sum(driven), np.arange(len(weights)), np.array(driven), begin, end)
 
 
-def place_at(line, share):
-    """The place at a share of a line."""
-    metres = [metres_between(*step) for step in itertools.pairwise(line)]
-    left = share * sum(metres)
-    for (begin, end), long in zip(itertools.pairwise(line), metres):
-        if left <= long:
-            return [low + left / long * (high - low) for low, high in zip(begin, end)]
-        left -= long
-    return line[-1]
-
-
-def segments_of(lines, leg):
-    """The segments that are driven on a leg along all of these lines."""
+def ways_to(lines, leg, place, reach):
+    """For each segment that is driven on a leg along these lines the square of the metres to a place, up to a reach, and the mark there."""
     for number, line in enumerate(lines):
-        low, high = leg.begin if number == 0 else 0.0, leg.end if number == len(lines) - 1 else 1.0
-        metres = [*itertools.accumulate((metres_between(*step) for step in itertools.pairwise(line)), initial=0.0)]
-        for first, last in itertools.pairwise(each / metres[-1] for each in metres):
-            if max(first, low) <= min(last, high):
-                yield place_at(line, max(first, low)), place_at(line, min(last, high))
+        first, last = leg.begin if number == 0 else 0.0, leg.end if number == len(lines) - 1 else 1.0
+        for ends in itertools.pairwise(metres / along(line)[-1] for metres in along(line)):
+            low, high = max(first, ends[0]), min(last, ends[1])
+            if low <= high:
+                metres, share = nearest_on_segment(place, *(point_at(line, each) for each in (low, high)))
+                yield min(metres, reach) ** 2, (number, low + share * (high - low))
 
 
-@pytest.mark.parametrize("seed", range(40))
-def test_places_on_legs(seed):
+@drawn(120)
+@given(st.data())
+def test_places_on_legs(data):
     """Places are put in order along what is driven of legs for the least sum of squares, of all ways to take segments that rise; and the
-    parts of a leg sum to it."""
-    draw = random.Random(seed)
-    lines = [[(draw.uniform(0, 1e-3), draw.uniform(0, 1e-3)) for _ in range(draw.randint(2, 3))] for _ in range(draw.randint(1, 3))]
-    lines = [[*([lines[number - 1][-1]] if number else []), *line] for number, line in enumerate(lines)]
-    weights = [draw.randint(1, 1000) for _ in lines]
-    units = [[(round(lon * 1e7), round(lat * 1e7)) for lon, lat in line] for line in lines]
+    parts of a leg weigh what is driven between."""
+    draw = data.draw
+    origin, scale = draw(st.sampled_from(ORIGINS)), draw(st.sampled_from([1, 1, 40]))
+    spots = points_near(origin, scale if origin[1] < 80 else 1)
+    counts = draw(st.lists(st.integers(1, 3), min_size=1, max_size=3))
+    points = draw(st.lists(spots, min_size=sum(counts) + 1, max_size=sum(counts) + 1, unique=True))
+    bounds = itertools.pairwise(itertools.accumulate(counts, initial=0))
+    lines, weights = [points[first : last + 1] for first, last in bounds], [draw(st.integers(1, 1000)) for _ in counts]
+    units = [np.rint(np.array(line) * 1e7).astype(int) for line in lines]
 
     def arc_lines(arcs):
         some = [units[arc] for arc in arcs.tolist()]
-        return np.cumsum([0, *map(len, some)]), np.array([point for line in some for point in line])
+        return np.cumsum([0, *map(len, some)]), np.concatenate(some)
 
-    lines = [[(lon / 1e7, lat / 1e7) for lon, lat in line] for line in units]
     roads = SimpleNamespace(arrays=SimpleNamespace(arc_lines=arc_lines, arc_weight=np.array(weights)))
-    legs = [drawn_leg(draw, weights) for _ in range(3)]
-    numbers = [[0, 1, 2][: draw.randint(1, 3)], [3], [4, 5]]
-    places = [(draw.uniform(0, 1e-3), draw.uniform(0, 1e-3)) for _ in range(6)]
-    reach = [draw.choice([10.0, 1000.0]) for _ in places]
+    legs, numbers = [drawn_leg(draw, weights) for _ in range(3)], [[0, 1, 2][: draw(st.integers(1, 3))], [3], [4, 5]]
+    near = [point_at(draw(st.sampled_from(lines)), draw(st.integers(0, 31)) / 31) for _ in range(6)]
+    places = [(lon, min(90.0, lat + 1e-5 * draw(st.integers(-20, 20)))) for lon, lat in near]
+    reach = [draw(st.sampled_from([10.0, 1000.0])) for _ in places]
     for leg, some, marks in zip(legs, numbers, nearest_marks(roads, legs, numbers, np.array(places), np.array(reach)), strict=True):
-        segments, marked = [*segments_of(lines, leg)], [place_at(lines[arc], share) for arc, share in marks]
-        ways = [[min(nearest_on_segment(places[number], *step)[0], reach[number]) ** 2 for step in segments] for number in some]
-        every = itertools.combinations_with_replacement(range(len(segments)), len(some))
-        least = min(sum(row[at] for row, at in zip(ways, each)) for each in every)
-        found = sum(min(metres_between(place, places[number]), reach[number]) ** 2 for place, number in zip(marked, some))
-        assert marks == sorted(marks) and (found <= least + 0.1 or len({mark[0] for mark in marks}) < len(marks))
+        rows = [[*ways_to(lines, leg, places[number], reach[number])] for number in some]
+        every = [[row[at] for row, at in zip(rows, each)] for each in itertools.combinations_with_replacement(range(len(rows[0])), len(some))]
+        least = min(sum(cost for cost, _ in way) for way in every)
+        best = [[*itertools.accumulate((mark for _, mark in way), max)] for way in every if sum(cost for cost, _ in way) <= least + 0.1]
+        assert any(all(is_near_mark(lines, *pair) for pair in zip(marks, way)) for way in best), (marks, best)
         parts = parts_of(roads, leg, marks)
-        assert len(parts) == len(marks) + 1 and sum(part.weight for part in parts) == leg.weight
+        assert len(parts) == len(marks) + 1 and marks == sorted(marks)
+        gone = [sum(leg.weights[:arc]) + round(share * weights[arc]) - (arc == 0) * round(leg.begin * weights[0]) for arc, share in marks]
+        assert [*itertools.accumulate(part.weight for part in parts)] == [*gone, leg.weight]
         for part in parts:
             assert part.weight == part.weights.sum() and (part.weights >= 0).all() and len(part.weights) == len(part.arcs)
         ends = [(part.arcs[0] + part.begin, part.arcs[-1] + part.end) for part in parts if len(part.arcs)]
         ends = [(leg.begin, leg.begin), *ends, (len(lines) - 1 + leg.end,) * 2]
         assert all(before[1] == pytest.approx(behind[0], abs=1e-9) for before, behind in itertools.pairwise(ends))
+
+
+def is_near_mark(lines, mark, other):
+    """Whether two marks on lines are one, but for half a metre."""
+    return metres_between(*(point_at(lines[arc], share) for arc, share in (mark, other))) < 0.5

@@ -30,7 +30,7 @@ from .leg_tables import Ends
 from .legs import EMPTY_LEG, Between, Leg, find_each, leg_without_nodes
 from .parallel import differs_from_previous
 from .snapping import RoadIndex, SnappedPoint, point_at
-from .sphere import Floats, great_circle_metres, nearest_on_segments, unit_vectors
+from .sphere import Floats, great_circle_metres, interpolate_one, nearest_on_segments, unit_vectors
 
 # Metres of the error of a point, by its deviation, to which states may be away; roads of a point; and the steps that are kept.
 REACH, MAX_ROADS, STEP = 3.0, 8, 6.0
@@ -355,10 +355,13 @@ def driven_segments(roads: RoadIndex, legs: Sequence[Leg]) -> Segments:
     high = np.append(low[1:], 0.0)
     high[np.append(is_first[1:], True)] = 1.0
     shares = np.stack((np.maximum(low, drive[0][arc]), np.minimum(high, drive[1][arc])))
-    cut = (shares - low) / np.maximum(high - low, 1e-9)
     kept = np.flatnonzero(shares[0] <= shares[1] + 1e-9)
-    ends = ends[0] + cut[:, :, None] * (ends[1] - ends[0])
-    return Segments(leg[arc[kept]], index[arc[kept]], shares[:, kept], ends[:, kept])
+    cut, shares, ends = ((shares - low) / np.maximum(high - low, 1e-9))[:, kept], shares[:, kept], ends[:, kept]
+    driven = ends.copy()
+    for side, row in zip(*np.nonzero(cut != [[0.0], [1.0]])):  # (where a leg begins or ends within a segment)
+        begin, end = ((lon, lat) for lon, lat in ends[:, row].tolist())
+        driven[side, row] = interpolate_one(begin, end, float(cut[side, row]))
+    return Segments(leg[arc[kept]], index[arc[kept]], shares, driven)
 
 
 def nearest_marks(
