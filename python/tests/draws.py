@@ -209,7 +209,7 @@ def run_tool(name: str, *words: object, given: str = "") -> tuple[str, str]:
     """Runs a tool in this process. Returns what it wrote to standard output and to standard error; raises its errors."""
     module = __import__(f"domethyme_tools.{name}", fromlist=["main"])
     out, said = io.StringIO(), io.StringIO()
-    stdin, argv = io.TextIOWrapper(io.BytesIO(given.encode())), [name, *map(str, words)]
+    stdin, argv = io.TextIOWrapper(io.BufferedReader(io.BytesIO(given.encode()))), [name, *map(str, words)]
     with contextlib.redirect_stdout(out), contextlib.redirect_stderr(said):
         with mock.patch.object(sys, "argv", argv), mock.patch.object(sys, "stdin", stdin):
             module.main()

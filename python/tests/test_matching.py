@@ -6,14 +6,12 @@ import itertools
 import json
 import math
 import pickle
-import random
 import re
 from types import SimpleNamespace
-from unittest import mock
 
 import numpy as np
 import pytest
-from draws import ORIGINS, Drawn, drawn, points_near, write_network
+from draws import ORIGINS, Drawn, drawn, points_near, run_tool, write_network
 from hypothesis import given
 from hypothesis import strategies as st
 from model import matching as model_matching
@@ -21,139 +19,111 @@ from model.network import Ambiguous, Arc, Network, Node
 from model.request import Request
 from model.sphere import along, metres_between, nearest_on_segment, point_at
 from reach_case import Road, prepared
-from tool_case import VILLAGE, ToolCase
+from tool_case import VILLAGE
 
 import domethyme
 from domethyme.network.legs import Leg
 from domethyme.network.matching import Matcher, Trace, nearest_marks, parts_of
+from domethyme_tools.cli import ToolError
 
 STEP = 111.195
-NO_ROAD = (0.0035, 0.0005)
 
 
-class VillageTests(ToolCase):
-    def setUp(self):
-        super().setUp()
-        self.run_tool("osm_to_gr", VILLAGE, "v")
-        domethyme.prepare(self.folder / "v.gr", self.folder / "v.rch").close()
-        self.hierarchy = domethyme.Hierarchy(self.folder / "v.rch", network=self.folder / "v")
-        self.addCleanup(self.hierarchy.close)
+@pytest.fixture(scope="module")
+def village(tmp_path_factory):
+    """The hierarchy of the village with its islands."""
+    with domethyme.from_osm(VILLAGE, tmp_path_factory.mktemp("village") / "v", keep_islands=True) as hierarchy:
+        yield hierarchy
 
-    def along(self, *east, north=0.0):
-        return [(lon, north) for lon in east]
 
-    @mock.patch("domethyme.network.matching.STEPS_AT_ONCE", 2)
-    def test_a_drive_along_a_street(self):
-        """Each place is where it was drawn, some metres beside the street; the legs sum to the way from the first to the last."""
-        for step, stride in ((0.0001, 3), (0.0004, 1)):
-            trace = [(0.0003 + step * number, 0.00002 * (-1) ** number) for number in range(16)]
-            (way,), places = self.hierarchy.match(trace)
-            with self.subTest(step=step):
-                self.assertEqual(way.points, list(range(16)))
-                for place, (lon, lat) in zip(places, trace):
-                    self.assertLess(metres_between((place.lon, place.lat), (lon, 0.0)), 0.2)
-                    self.assertAlmostEqual(place.metres, abs(lat) * 1000 * STEP, delta=0.2)
-                found, whole = way.directions, self.hierarchy.directions([(trace[0][0], 0.0), (trace[-1][0], 0.0)])
-                self.assertEqual((found.weight, len(found.legs)), (whole.weight, 15))
-                self.assertAlmostEqual(found.metres, 15 * step * 1000 * STEP, delta=0.5)
-                self.assertGreater(way.confidence, 0.5)
-                feature = way.geojson()
-                self.assertEqual(feature, way.__geo_interface__)
-                self.assertEqual(feature["properties"]["points"], way.points)
+def street(*east, north=0.0):
+    return [(lon, north) for lon in east]
 
-    def test_a_place_beside_its_way(self):
-        """One of the places between those that decide is beyond three deviations."""
-        (way,), places = self.hierarchy.match([(0.0003 + 0.0001 * number, 0.0002 * (number == 7)) for number in range(16)])
-        self.assertEqual((way.points, places[7]), ([*range(7), *range(8, 16)], None))
 
-    def test_a_vehicle_that_stands(self):
-        """Places to and fro by less than two deviations are one, and no metre counts twice."""
-        trace = self.along(0.0002, 0.0006, 0.00052, 0.00058, 0.0009)
-        (way,), places = self.hierarchy.match(trace, deviation=[5, 5, 5, 5, 5])
-        self.assertAlmostEqual(way.directions.metres, 0.7 * STEP, delta=0.5)
-        self.assertTrue(all(places))
+@pytest.mark.parametrize("step, turn", [(0.0001, 1), (0.0001, -1), (0.0004, 1)])
+def test_a_drive_along_a_street(village, monkeypatch, step, turn):
+    """Each place is where it was drawn, some metres beside the street, and so is each leg's time; but for one beyond three deviations."""
+    monkeypatch.setattr("domethyme.network.matching.STEPS_AT_ONCE", 2)
+    trace = [(0.0003 + step * number, 0.00002 * (-1) ** number + 0.0002 * (number == 7)) for number in range(16)][::turn]
+    (way,), places = village.match(trace)
+    far = 7 if turn == 1 else 8
+    assert way.points == [number for number in range(16) if number != far] and places[far] is None
+    for number, (place, (lon, lat)) in enumerate(zip(places, trace)):
+        if number != far:
+            assert metres_between((place.lon, place.lat), (lon, 0.0)) < 0.2 and place.name == "High Street"
+            assert place.metres == pytest.approx(abs(lat) * 1000 * STEP, abs=0.2)
+    found, whole = way.directions, village.directions([(trace[end][0], 0.0) for end in (0, -1)])
+    assert found.weight == whole.weight and found.metres == pytest.approx(15 * step * 1000 * STEP, abs=0.5) and way.confidence > 0.5
+    for leg, (here, there) in zip(found.legs, itertools.pairwise(way.points), strict=True):
+        metres = 1000 * STEP * abs(trace[there][0] - trace[here][0])
+        assert (leg.metres, leg.seconds) == pytest.approx((metres, whole.seconds / whole.metres * metres), abs=0.2)
+    again = pickle.loads(pickle.dumps(way))
+    assert again.geojson() == way.geojson() == way.__geo_interface__ and again.confidence == way.confidence
+    assert again.points == way.geojson()["properties"]["points"] == way.points and way.directions._repr_html_() is None
 
-    def test_places_beside_a_street(self):
-        """Roads within three deviations count, which are of 5 m where nobody says so."""
-        for metres, is_near in ((14.8, True), (15.2, False)):
-            places = self.hierarchy.match(self.along(0.0005, 0.0009, north=metres / STEP / 1000)).places
-            self.assertEqual([place is not None for place in places], [is_near] * 2)
 
-    def test_directions(self):
-        """A bearing decides on the direction of a street, though the places are one."""
-        trace = self.along(0.0005, 0.00051)
-        for bearing, east in ((90, True), (270, False)):
-            (way,), places = self.hierarchy.match(trace, deviation=np.float32(20), bearings=np.full((2, 2), (bearing, 30)))
-            arc, = places[0].arcs
-            self.assertEqual(self.hierarchy.network.roads.arc(arc).is_along, east == (self.hierarchy.network.roads.edge(places[0].edge).points[0][0] == 0.0))
-            again = pickle.loads(pickle.dumps(way))
-            assert (again.points, again.confidence, again.geojson()) == (way.points, way.confidence, way.geojson())
-            assert way.directions._repr_html_() is None
-        found = self.hierarchy.match(self.along(0.0002, 0.0007), bearings=[(0, 10), (0, 10)])
-        self.assertEqual((found.matchings, found.places), ([], [None, None]))
+@pytest.mark.parametrize("metres, is_near", [(14.8, True), (15.2, False)])
+def test_places_beside_a_street(village, metres, is_near):
+    """Roads within three deviations count, which are of 5 m where nobody says so."""
+    places = village.match(street(0.0005, 0.0009, north=metres / STEP / 1000)).places
+    assert [place is not None for place in places] == [is_near] * 2
 
-    def test_gaps(self):
-        """A gap of time ends a way, unless it is ignored; a place without a road is left out; and a way needs two places."""
-        trace, times = self.along(*(0.0004 * number + 0.0001 for number in range(8))), [0, 5, 10, 15, 100, 105, 110, 115]
-        for gaps, wanted in (("split", [[0, 1, 2, 3], [4, 5, 6, 7]]), ("ignore", [list(range(8))])):
-            self.assertEqual([way.points for way in self.hierarchy.match(trace, times, gaps=gaps).matchings], wanted)
-        trace[2] = NO_ROAD
-        (way,), places = self.hierarchy.match(trace)
-        self.assertEqual((way.points, places[2]), ([0, 1, 3, 4, 5, 6, 7], None))
-        self.assertEqual(self.hierarchy.match([*trace[:1], NO_ROAD]).matchings, [])
 
-    def test_an_island(self):
-        """Where no way leads on another one begins."""
-        far = [(0.020 + 0.0004 * number, 0.005) for number in range(3)]
-        self.run_tool("osm_to_gr", VILLAGE, "w", "--keep-islands")
-        domethyme.prepare(self.folder / "w.gr", self.folder / "w.rch").close()
-        with domethyme.Hierarchy(self.folder / "w.rch", network=self.folder / "w") as hierarchy:
-            found = hierarchy.match([*self.along(0.0001, 0.0005, 0.0009), *far])
-            self.assertEqual([way.points for way in found.matchings], [[0, 1, 2], [3, 4, 5]])
-            # (as many places in a row to which no way leads are left out)
-            for count, wanted in ((3, [[0, 1, 5]]), (4, [[0, 1], [2, 3, 4, 5]])):
-                trace = [*self.along(0.0001, 0.0005), *([*far, far[0]][:count]), *self.along(0.0009)]
-                self.assertEqual([way.points for way in hierarchy.match(trace).matchings], wanted)
-            # (and as many of them as there are between others)
-            steps = self.along(0.0001, 0.0005, 0.0009, 0.0013, 0.0017, 0.0021)
-            trace = [place for step in steps for place in (step, far[0])]
-            self.assertEqual([way.points for way in hierarchy.match(trace).matchings], [[0, 2, 4, 6, 8, 10]])
+def test_numbers_of_numpy(village):
+    """A bearing decides on the direction of a street, though the places are nearly one."""
+    roads, found = village.network.roads, []
+    for bearing in (90, 270):
+        (_,), places = village.match(street(0.0005, 0.00051), deviation=np.float32(20), bearings=np.full((2, 2), (bearing, 30)))
+        (arc,) = places[0].arcs
+        found.append(roads.arc(arc).is_along == (roads.edge(places[0].edge).points[0][0] == 0.0))
+    assert found == [True, False]
 
-    def test_arguments_that_are_refused(self):
-        for words, says in [
-            ({"trace": [(0, 0)]}, "two places or more"), ({"deviation": 0}, "above 0"), ({"deviation": 201}, "above 0"),
-            ({"deviation": [5]}, "one for each place"), ({"seconds": [1]}, "one for each place"),
-            ({"seconds": [2, 1]}, "don't fall"), ({"seconds": [1, math.nan]}, "have to be numbers"),
-            ({"gaps": "both"}, "gaps has to be"), ({"bearings": [None]}, "one for each place"),
-            ({"bearings": [(400, 1), None]}, "a bearing is"), ({"trace": [(0, 0), (200, 0)]}, "-180"),
-            ({"bearings": [90, None]}, "a bearing is"), ({"bearings": [("a", 1), None]}, "a bearing is"),
-            ({"bearings": 5}, "one for each place"), ({"seconds": [-math.inf, 1]}, "don't fall"),
-            ({"seconds": np.array([0, 9], "M8[ns]")}, "seconds have to be numbers"),
-            ({"seconds": np.array([0, 9], "m8[ns]")}, "have to be numbers"),
-            ({"seconds": [datetime.datetime(2024, 5, day) for day in (1, 2)]}, "seconds have to be numbers"),
-            ({"seconds": 5}, "one for each place"), ({"deviation": np.array(5.0)}, "one for each place"),
-            ({"deviation": None}, "have to be numbers"),
-        ]:
-            with self.subTest(says), pytest.raises(ValueError, match=re.escape(says)):
-                self.hierarchy.match(**{"trace": self.along(0.0001, 0.0005), **words})
-        self.assertEqual(len(self.hierarchy.match(self.along(0.0001, 0.0005), [3, 3], deviation=[200, 200]).matchings), 1)
 
-    def test_tool(self):
-        self.write("trace.csv", "lon,name,lat,seconds,deviation\n0.0001,a,0,0,\n0.0005,b,0,9,20\n0.0009,c,0.00001,18,\n0.0013,d,0,200,\n0.0017,e,0,209,\n")
-        self.run_tool("match", "v", "v.rch", "trace.csv", "-o", "out.geojson")
-        found = json.loads((self.folder / "out.geojson").read_text())
-        self.assertEqual([feature["properties"]["rows"] for feature in found["features"]], [[2, 3, 4], [5, 6]])
-        self.assertAlmostEqual(found["features"][0]["properties"]["metres"], 0.8 * STEP, delta=0.5)
-        found = json.loads(self.run_tool("match", "v", "v.rch", "-", "--ignore-gaps", "--deviation", "4", given=(self.folder / "trace.csv").read_text()).stdout)
-        self.assertEqual([feature["properties"]["rows"] for feature in found["features"]], [[2, 3, 4, 5, 6]])
-        for words, ways in ([], 0), (["--deviation", "12"], 1):  # (without a column of them; 33 m beside the street)
-            beside = self.run_tool("match", "v", "v.rch", "-", *words, given="lon,lat\n0.0003,0.0003\n0.0008,0.0003\n").stdout
-            self.assertEqual(len(json.loads(beside)["features"]), ways)
-        for text, says in [("lon,lat\n0,0\n", "two places or more"), ("lon,lat,seconds\n0,0,1\n0,0,x\n", "row 3: seconds 'x' is not a number"),
-                           ("lon,lat,seconds\n0,0,1\n0,0,\n", "row 3: seconds '' is not a number"),
-                           ("lon,lat,seconds\n0,0,2\n0,0,1\n", "don't fall"), ("lon,lat,deviation\n0,0,\n0,0,0\n", "above 0")]:
-            self.write("bad.csv", text)
-            self.assert_refused("match", "v", "v.rch", "bad.csv", says=says)
+def test_an_island(village):
+    """Where no way leads on another one begins, but for up to three places in a row; more than three between others are left out too."""
+    far, steps = [(0.020 + 0.0004 * number, 0.005) for number in (0, 1, 2, 0)], street(*(0.0001 + 0.0004 * number for number in range(6)))
+    for trace, wanted in [
+        (steps[:3] + far[:3], [[0, 1, 2], [3, 4, 5]]), (steps[:2] + far[:3] + steps[2:3], [[0, 1, 5]]),
+        (steps[:2] + far + steps[2:3], [[0, 1], [2, 3, 4, 5]]), ([place for step in steps for place in (step, far[0])], [[0, 2, 4, 6, 8, 10]]),
+    ]:
+        assert [way.points for way in village.match(trace).matchings] == wanted
+
+
+def test_arguments_that_are_refused(village):
+    for words, says in [
+        ({"trace": [(0, 0)]}, "two places or more"), ({"deviation": 0}, "above 0"), ({"deviation": 201}, "above 0"),
+        ({"deviation": [5]}, "one for each place"), ({"seconds": [1]}, "one for each place"),
+        ({"seconds": [2, 1]}, "don't fall"), ({"seconds": [1, math.nan]}, "have to be numbers"),
+        ({"gaps": "both"}, "gaps has to be"), ({"bearings": [None]}, "one for each place"),
+        ({"bearings": [(400, 1), None]}, "a bearing is"), ({"trace": [(0, 0), (200, 0)]}, "-180"),
+        ({"bearings": [90, None]}, "a bearing is"), ({"bearings": [("a", 1), None]}, "a bearing is"),
+        ({"bearings": 5}, "one for each place"), ({"seconds": [-math.inf, 1]}, "don't fall"),
+        ({"seconds": np.array([0, 9], "M8[ns]")}, "seconds have to be numbers"),
+        ({"seconds": np.array([0, 9], "m8[ns]")}, "have to be numbers"),
+        ({"seconds": [datetime.datetime(2024, 5, day) for day in (1, 2)]}, "seconds have to be numbers"),
+        ({"seconds": 5}, "one for each place"), ({"deviation": np.array(5.0)}, "one for each place"),
+        ({"deviation": None}, "have to be numbers"),
+    ]:
+        with pytest.raises(ValueError, match=re.escape(says)):
+            village.match(**{"trace": street(0.0001, 0.0005), **words})
+    assert len(village.match(street(0.0001, 0.0005), [3, 3], deviation=[200, 200]).matchings) == 1
+
+
+BESIDE = "lon,lat\n0.0003,0.0003\n0.0008,0.0003\n"
+
+
+@pytest.mark.parametrize("text, words, wanted", [
+    (BESIDE, [], 0), (BESIDE, ["--deviation", "12"], 1),  # (without a column of them; 33 m beside the street)
+    ("lon,lat\n0,0\n", [], "two places or more"), ("lon,lat,seconds\n0,0,1\n0,0,x\n", [], "row 3: seconds 'x' is not a number"),
+    ("lon,lat,seconds\n0,0,1\n0,0,\n", [], "row 3: seconds '' is not a number"),
+    ("lon,lat,seconds\n0,0,2\n0,0,1\n", [], "don't fall"), ("lon,lat,deviation\n0,0,\n0,0,0\n", [], "above 0"),
+])
+def test_tool(village, tmp_path, text, words, wanted):
+    out = tmp_path / "out"
+    with contextlib.nullcontext() if isinstance(wanted, int) else pytest.raises(ToolError, match=re.escape(wanted)):
+        run_tool("match", village.network.prefix, village.path, "-", *words, "-o", out, given=text)
+        assert len(json.loads(out.read_text())["features"]) == wanted
+    assert out.exists() == isinstance(wanted, int)
 
 
 @drawn(300)
