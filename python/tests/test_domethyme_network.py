@@ -1,13 +1,14 @@
-"""Tests of networks in the package domethyme: nodes near places, routes as GeoJSON, and keys of OpenStreetMap."""
+"""Networks in the package domethyme: their keys, and files that are refused."""
 import pickle
 
 import pytest
-from tool_case import VILLAGE, ToolCase
+from draws import run_tool
+from tool_case import VILLAGE
 
 import domethyme
 
-# Keys of several junctions, or beside one of a junction, by the ends of their nodes.
-SEVERAL = (3, ["from", "to", "from", "to"]), (4, ["", "from", "to"]), (5, ["from", "to", "to"])
+# The ends of nodes by their keys: of one junction with turn restrictions, and one node, and then of several.
+ENDS = [(7, ["from", "to", "no"]), (8, [""]), (3, ["from", "to", "from", "to"]), (4, ["", "from", "to"]), (5, ["from", "to", "to"])]
 
 
 def test_a_relative_path(tmp_path, monkeypatch):
@@ -22,41 +23,26 @@ def test_a_relative_path(tmp_path, monkeypatch):
         network.keys()
 
 
-class NetworkTests(ToolCase):
-    def setUp(self):
-        super().setUp()
-        self.run_tool("osm_to_gr", VILLAGE, "v", "--keep-islands", "--tables")
-        self.network = domethyme.Network(self.folder / "v")
+def test_keys(tmp_path):
+    """Those of a map, in which a bollard parts node 53, and of a table: a key that names more than one junction can't be asked for."""
+    run_tool("osm_to_gr", VILLAGE, tmp_path / "v", "--tables")
+    rows = [f"{key},{key / 1000},0,{end}" for key, ends in ENDS for end in ends]
+    (tmp_path / "t.nodes.csv").write_text("\n".join(["node,osm,lon,lat,ends", *map("{},{}".format, range(1, 99), rows), ""]))
+    of_map, own = (domethyme.Network(tmp_path / name) for name in "vt")
+    assert (of_map.keys().node(1), 1 in of_map.keys(), 53 in of_map.keys()) == (0, True, False)
+    assert [own.keys().node(7), own.keys().end(7), own.keys().node(8), own.keys().end(8)] == [0, 1, 3, 3]
+    for network, key in [(of_map, 53), (own, 3), (own, 4), (own, 5)]:
+        with pytest.raises(domethyme.NoSuchNode, match=f"{key} names several nodes"):
+            network.keys().node(key)
+    with pytest.raises(domethyme.NetworkError, match="has no column name"):
+        of_map.keys("name")
 
-    def test_keys_of_the_map(self):
-        keys = self.network.keys()
-        self.assertEqual((keys.node(1), 1 in keys, 53 in keys), (0, True, False))
-        # a bollard parts node 53, which is two nodes then
-        with self.assertRaisesRegex(domethyme.NoSuchNode, "53 names several nodes"):
-            keys.node(53)
-        with self.assertRaisesRegex(domethyme.NetworkError, "has no column name"):
-            self.network.keys("name")
 
-    def test_a_junction_with_turn_restrictions(self):
-        junctions = ["7,0,0,from", "8,0.001,0,", "7,0,0,to", "7,0,0,no", *(f"{each},0,1,{end}" for each, ends in SEVERAL for end in ends)]
-        self.write("t.nodes.csv", "\n".join(["node,osm,lon,lat,ends", *map("{},{}".format, range(1, 99), junctions), ""]))
-        network = domethyme.Network(self.folder / "t")
-        for place, nodes in ((0.0001, (0, 2)), (0.0009, (1, 1))):
-            self.assertEqual(tuple(network.nearest(place, 0, side)[0] for side in ("from", "to")), nodes)
-            with self.assertWarns(DeprecationWarning):
-                old = [network.nearest(place, 0, end)[0] for end in (False, True)]
-                self.assertEqual([old, [network.nearest(place, 0, end=end)[0] for end in (False, True)]], [[*nodes]] * 2)
-        self.assertEqual([network.keys().node(key) for key in (7, 8)], [0, 1])
-        for key, _ in SEVERAL:
-            with self.assertRaisesRegex(domethyme.NoSuchNode, f"{key} names several nodes"):
-                network.keys().node(key)
-
-    def test_files_that_are_refused(self):
-        self.write("a.nodes.csv", "node,osm,lon\n1,1,0\n")
-        with self.assertRaisesRegex(domethyme.NetworkError, "row 1: has no column lat; its columns are node, osm, lon"):
-            domethyme.Network(self.folder / "a").nearest(0, 0)
-        with self.assertRaisesRegex(domethyme.NetworkError, "b.net: No such file"):
-            domethyme.Network(self.folder / "b")
-        for name in ("v.gr", "v.net", "v.nodes.csv", "v.arcs.csv"):
-            with self.assertRaisesRegex(domethyme.NetworkError, f"{name}: .*name the network by the prefix of its files"):
-                domethyme.Network(self.folder / name)
+@pytest.mark.parametrize("name, says", [
+    ("a", "row 1: has no column lat; its columns are node, osm, lon"), ("b", "b.net: No such file"),
+    *((f"v{end}", f"v{end}: .*name the network by the prefix of its files") for end in (".gr", ".net", ".nodes.csv", ".arcs.csv")),
+])
+def test_files_that_are_refused(tmp_path, name, says):
+    (tmp_path / "a.nodes.csv").write_text("node,osm,lon\n1,1,0\n")
+    with pytest.raises(domethyme.NetworkError, match=says):
+        domethyme.Network(tmp_path / name).nearest(0, 0)

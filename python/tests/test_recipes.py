@@ -1,4 +1,4 @@
-"""The recipes of docs/OPERATING.md and docs/PYTHON.md do what the pages say, in a folder in place of the machine's own."""
+"""The recipes and sessions of pages do what the pages say, in a folder in place of the machine's own."""
 import fcntl
 import hashlib
 import json
@@ -23,13 +23,13 @@ from domethyme.dimacs import read_graph
 
 sys.path.insert(0, str(ROOT / "packaging"))
 
-from readme_session import blocks  # noqa: E402
+from readme_session import blocks, session  # noqa: E402
 
-PAGE, PYTHON_PAGE = ((ROOT / "docs" / name).read_text(encoding="utf-8") for name in ("OPERATING.md", "PYTHON.md"))
+PAGE, PYTHON_PAGE, OWN_DATA, FROM_OSRM = (
+    (ROOT / f"docs/{name}.md").read_text(encoding="utf-8") for name in ("OPERATING", "PYTHON", "OWN_DATA", "FROM_OSRM")
+)
 PLACE = "/route/v1/{}/0.001,0;0.012,0?overview=false&generate_hints=false"
 REFRESH = ROOT / "packaging/container/refresh"
-
-
 TOWN = "<osm version='0.6'>" + "".join(f"<node id='{node}' lon='{node / 1000}' lat='{node % 2 / 1000}'/>" for node in range(1, 5)) + """
 <way id='1'><nd ref='1'/><nd ref='2'/><nd ref='3'/><tag k='highway' v='primary'/><tag k='maxspeed' v='50'/></way>
 <way id='2'><nd ref='2'/><nd ref='4'/><tag k='highway' v='residential'/></way></osm>"""
@@ -48,24 +48,33 @@ def moved_village(folder):
     return folder / "li.osm"
 
 
+def program():
+    return pathlib.Path(os.environ["ROUTECLI"]).resolve()
+
+
+def place_with(folder, *names):
+    """A folder with these of the clone, the program as routecli, and one for files; and the PATH that has it."""
+    for name in names:
+        (folder / name).symlink_to(ROOT / name)
+    (folder / "out").mkdir()
+    (folder / "bin").mkdir()
+    (folder / "bin/routecli").symlink_to(program())
+    return f"{folder}/bin:{os.environ['PATH']}"
+
+
 @pytest.mark.needs("curl")
 def test_from_osrm(tmp_path):
-    """Each command of docs/FROM_OSRM.md, in a folder with the clone's tools and the village in the place of its map; the service answers."""
-    page = (ROOT / "docs/FROM_OSRM.md").read_text(encoding="utf-8")
-    (tmp_path / "out").mkdir()
-    (tmp_path / "tools").symlink_to(TOOLS)
-    (tmp_path / "bin").mkdir()
-    (tmp_path / "bin/routecli").symlink_to(pathlib.Path(os.environ["ROUTECLI"]).resolve())
+    """Each command, with the village in the place of the page's map; the service answers."""
+    environment = {**os.environ, "PATH": place_with(tmp_path, "tools")}
     write_map(tmp_path / "out/liechtenstein-2013-08-03.osm.pbf", moved_village(tmp_path))
     # (nobody else is given a port that is bound; the service may listen at it)
     kept = socket.socket()
     kept.setsockopt(socket.SOL_SOCKET, socket.SO_REUSEADDR, 1)
     kept.bind(("127.0.0.1", 0))
     port = str(kept.getsockname()[1])
-    serving, pricing = re.findall(r"^```sh\n(.*?)^```$", page, re.S | re.M)
+    serving, pricing = re.findall(r"^```sh\n(.*?)^```$", FROM_OSRM, re.S | re.M)
     serving = serving.replace("--network out/osrm &", f"--network out/osrm --port {port} &").replace(":5000/", f":{port}/")
     serving = serving.replace("9.5090,47.1650", "9.5225,47.1410").replace("--retry 50 ", f"--retry {SECONDS} ")  # (what only a hang exceeds)
-    environment = {**os.environ, "PATH": f"{tmp_path}/bin:{os.environ['PATH']}"}
     with kept:
         for block in (f"trap 'kill $(jobs -p); wait' EXIT\n{serving}", pricing):
             ran = subprocess.run(["bash", "-euc", block], cwd=tmp_path, env=environment, capture_output=True, text=True)
@@ -76,13 +85,20 @@ def test_from_osrm(tmp_path):
     assert {"tools/osm_to_gr", "tools/domethyme-serve", "routecli", "curl"} == typed
 
 
-@pytest.mark.parametrize("name", [
-    pytest.param("networkx", marks=pytest.mark.needs("import:networkx")), pytest.param("osmnx", marks=pytest.mark.needs("import:osmnx")),
-    pytest.param("folium", marks=[pytest.mark.needs("import:geopandas"), pytest.mark.needs("import:folium")]),
-])
-def test_python(tmp_path, name):
+def test_own_data(tmp_path, monkeypatch):
+    monkeypatch.setenv("PATH", place_with(tmp_path, "examples", "tools", "python"))
+    monkeypatch.chdir(tmp_path)
+    assert session(OWN_DATA) == 10 and (tmp_path / "out/firm.svg").stat().st_size > 1000
+
+
+@pytest.mark.parametrize("page, name", [
+    pytest.param(PYTHON_PAGE, "networkx", marks=pytest.mark.needs("import:networkx")),
+    pytest.param(PYTHON_PAGE, "osmnx", marks=pytest.mark.needs("import:osmnx")), (OWN_DATA, "pandas"),
+    pytest.param(PYTHON_PAGE, "folium", marks=[pytest.mark.needs("import:geopandas"), pytest.mark.needs("import:folium")]),
+], ids=["networkx", "osmnx", "pandas", "folium"])
+def test_python(tmp_path, page, name):
     """Each block prints what its comments say; the map is the village, moved to where the page asks."""
-    (block,) = blocks(PYTHON_PAGE, f"import domethyme\nimport {name}\n")
+    (block,) = blocks(page, f"import domethyme\nimport {name}\n")
     (tmp_path / "out").mkdir()
     (tmp_path / "out/town.osm").write_text(TOWN)
     domethyme.from_osm(moved_village(tmp_path), tmp_path / "out/li").close()
@@ -111,7 +127,7 @@ class RecipeTests(NginxCase):
         folder.mkdir()
         for name in ("osm_to_gr", "reweigh", "to_network", "without"):
             said["domethyme-" + name.replace("_", "-")] = f'exec {TOOLS}/{name} "$@"'
-        said["routecli"] = f'exec {pathlib.Path(os.environ["ROUTECLI"]).resolve()} "$@"'
+        said["routecli"] = f'exec {program()} "$@"'
         for name, lines in said.items():
             (folder / name).write_text(f"#!/bin/sh\n{lines}\n", encoding="utf-8")
             (folder / name).chmod(0o755)
