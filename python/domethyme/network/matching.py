@@ -205,18 +205,16 @@ class Matcher:
     ) -> Floats:
         """The metres along a shortest path from the start of each row to the end of each column, infinity for none; 0 for a vehicle that
         stands, which goes back by less than `behind`."""
-        weights, metres = self._through_nodes(starts, ends, rows, columns)
+        metres = self._through_nodes(starts, ends, rows, columns)
         of_starts, of_ends = (np.array([point.edge for point in points]) for points in (starts, ends))
         for at in np.flatnonzero(of_starts[rows] == of_ends[columns]).tolist():
-            found = self._metres_on_arc(starts[rows[at]], ends[columns[at]], behind[at], weights[at])
+            found = self._metres_on_arc(starts[rows[at]], ends[columns[at]], behind[at])
             if found is not None:
                 metres[at] = found
         return metres
 
-    def _through_nodes(
-        self, starts: Sequence[SnappedPoint], ends: Sequence[SnappedPoint], rows: Ints, columns: Ints
-    ) -> tuple[Ints, Floats]:
-        """The least weights through nodes, FAR for no path, and the metres along a path of that weight, infinity for none."""
+    def _through_nodes(self, starts: Sequence[SnappedPoint], ends: Sequence[SnappedPoint], rows: Ints, columns: Ints) -> Floats:
+        """The metres along a path of the least weight through nodes, infinity for none."""
         column = self._roads.arrays.arc_metres
         exits, entries = Ends.of([point.exits for point in starts]), Ends.of([point.entries for point in ends])
         (sources, source), (targets, target) = (np.unique(side.nodes, return_inverse=True) for side in (exits, entries))
@@ -233,15 +231,15 @@ class Matcher:
         firsts = offsets(counts)[:-1]
         least = np.minimum.reduceat(weights, firsts)
         metres = np.where((weights == FAR) | (weights > least[pair]), np.inf, (sums + parts) / 1000)
-        return least, np.minimum.reduceat(metres, firsts)
+        return np.asarray(np.minimum.reduceat(metres, firsts))
 
-    def _metres_on_arc(self, start: SnappedPoint, end: SnappedPoint, behind: float, weight: int) -> float | None:
-        """The metres of the way that stays on an arc, if it is a shortest path, or if the vehicle stands; None for none."""
+    def _metres_on_arc(self, start: SnappedPoint, end: SnappedPoint, behind: float) -> float | None:
+        """The metres of the way that stays on an arc, 0 if the vehicle stands; None for none. As states have arcs of one direction no way
+        through nodes weighs less."""
         metres = ahead(self._roads, start, end)
         if metres is None or metres < 0:
             return 0.0 if metres is not None and -metres < behind else None
-        leg = leg_without_nodes(self._roads, start, end)
-        return driven_thousandths(self._roads.arrays.arc_metres, leg) / 1000 if leg is not None and leg.weight <= weight else None
+        return driven_thousandths(self._roads.arrays.arc_metres, needed(leg_without_nodes(self._roads, start, end))) / 1000
 
     # The way by these states
 
