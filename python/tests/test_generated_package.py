@@ -5,6 +5,7 @@ import math
 import pathlib
 import shutil
 import tempfile
+from collections.abc import Iterable
 from typing import Any
 from unittest import mock
 
@@ -14,7 +15,7 @@ import pytest
 from draws import HEAVY, KINDS, Drawn, drawn, networks, places, run_tool, write_network
 from hypothesis import given
 from hypothesis import strategies as st
-from comparing import Near, difference, is_same_line, unwrapped
+from comparing import Near, difference, is_same_line, rings_of, unwrapped
 from model.network import Ambiguous, Arc, Network
 from model.reach import reached_lines
 from model.sphere import Point, along
@@ -51,6 +52,11 @@ class Asked:
         return self.keys.index(key)
 
 
+def plain(found: Any) -> list[Any]:
+    """The values of an array, or of an object of pandas, None for missing ones."""
+    return [plain(row) if isinstance(row, (list, np.ndarray)) else None if row is pandas.NA else row for row in np.asarray(found, object).tolist()]
+
+
 @drawn(110)
 @given(st.data())
 def test_lengths_routes_and_tables(data: Any) -> None:
@@ -79,8 +85,14 @@ def check_pairs(asked: Asked, pairs: list[tuple[int, int]], form: str) -> None:
     by_key = [(asked.keys[source], asked.keys[target]) for source, target in pairs]
     wanted = [asked.lengths[source].get(target) for source, target in pairs]
     assert [asked.hierarchy.length(*each) for each in by_key] == wanted
-    for pair, length in zip(by_key, wanted):
-        check_route(asked, asked.hierarchy.route(*pair), pair, length)
+    arcs = [asked.net.fewest_arcs(*pair) for pair in pairs]
+    for (source, target), length, count in zip(by_key, wanted, arcs):
+        route = asked.hierarchy.route(source, target)
+        assert (route is None) == (length is None)
+        if route is not None:
+            assert (route.source, route.target, route.length, route.arcs) == (source, target, length, count)
+            assert count == len(route.nodes) - 1 and is_route(asked, route.nodes, source, target, length)
+            check_line(asked, route)
     if any(isinstance(key, tuple) for key in asked.keys):
         return
     given: Any = np.array(by_key) if form == "array" else by_key
@@ -90,36 +102,21 @@ def check_pairs(asked: Asked, pairs: list[tuple[int, int]], form: str) -> None:
         index, columns = [7 * row for row in range(len(pairs))], [*FRAMES.values()][[*FRAMES].index(form) :]
         rows = [[*each, *each[::-1] * (len(columns) - 1)] for each in by_key]  # (of several names the first ones count)
         given = pandas.DataFrame(rows, columns=[*itertools.chain(*columns)], index=index)
-    filled, lengths = [-1 if length is None else length for length in wanted], asked.hierarchy.lengths(given)
-    routes = asked.hierarchy.routes(given)
-    assert (lengths.fillna(-1) if form in FRAMES else lengths).tolist() == filled == routes.lengths.tolist()
-    arcs = [asked.net.fewest_arcs(*pair) for pair in pairs]
-    assert routes.arcs.tolist() == [-1 if count is None else count for count in arcs]
+    lengths, routes = asked.hierarchy.lengths(given), asked.hierarchy.routes(given)
+    assert plain(lengths) == (wanted if form in FRAMES else [-1 if length is None else length for length in wanted])
+    assert [routes.lengths.tolist(), routes.arcs.tolist()] == [[-1 if each is None else each for each in row] for row in (wanted, arcs)]
     for route, (source, target), length in zip(routes, by_key, wanted):
         assert len(route) == 0 if length is None else is_route(asked, list(route), source, target, length)
-    features = asked.hierarchy.network.geojson(routes)["features"]
+    features, frame = asked.hierarchy.network.geojson(routes)["features"], routes.to_frame()
     shown = [[feature["properties"][name] for name in ("from", "to", "length", "arcs")] for feature in features]
-    assert shown == [[*pair, *figures] for pair, *figures in zip(by_key, wanted, arcs)]
+    assert shown == plain(frame) == [[*pair, *figures] for pair, *figures in zip(by_key, wanted, arcs)]
     assert [feature["geometry"] is None for feature in features] == [length is None for length in wanted]
-    frame = routes.to_frame()
-    columns = [[pair[0] for pair in by_key], [pair[1] for pair in by_key], wanted, arcs]
-    assert [[None if value is pandas.NA else value for value in frame[name]] for name in frame] == [*map(list, columns)]
     if form in FRAMES:
         assert lengths.index.tolist() == frame.index.tolist() == index and lengths.name == "length"
     for rows in (slice(1, 3), slice(None, None, -2), slice(4, 9)):
         part, same = routes[rows], asked.hierarchy.routes(given[rows])
         assert part == same and part.to_frame().equals(same.to_frame()) and [*map(list, part)] == [*map(list, routes)][rows]
     assert [list(routes[row - len(pairs)]) for row in range(len(pairs))] == [*map(list, routes)]
-
-
-def check_route(asked: Asked, route: Any, pair: tuple[Any, Any], length: int | None) -> None:
-    if length is None:
-        assert route is None
-        return
-    assert (route.source, route.target, route.length) == (*pair, length)
-    assert route.arcs == len(route.nodes) - 1 == asked.net.fewest_arcs(*map(asked.node, pair))
-    assert is_route(asked, route.nodes, *pair, length)
-    check_line(asked, route)
 
 
 def is_route(asked: Asked, keys: list[Any], source: Any, target: Any, length: int) -> bool:
@@ -136,14 +133,12 @@ def check_line(asked: Asked, route: Any) -> None:
     if any(len(arcs) > 1 for arcs in steps):
         return  # (of equally light arcs any may be taken)
     arcs = [network.arcs[each] for each, *_ in steps]
-    expected = {
+    assert not difference(feature["properties"], {
         "from": route.source, "to": route.target, "length": route.length, "arcs": len(arcs),
         "seconds": Near(sum(arc.seconds for arc in arcs), 0.001) if network.has_seconds else None,
         "metres": Near(sum(arc.metres for arc in arcs), 0.011),
-    }
-    assert not difference(feature["properties"], expected)
-    points = [network.nodes[line[0]].place, *(point for arc in arcs for point in arc.line)]
-    geometry = feature["geometry"]
+    })
+    points, geometry = [network.nodes[line[0]].place, *(point for arc in arcs for point in arc.line)], feature["geometry"]
     parts = geometry["coordinates"] if geometry["type"] == "MultiLineString" else [geometry["coordinates"]]
     assert all(abs(b[0] - a[0]) <= 180 for part in parts for a, b in zip(part, part[1:]))
     found = [(lon, lat) for part in parts for lon, lat in part if len(parts) == 1 or abs(lon) != 180]
@@ -157,25 +152,25 @@ def check_table(asked: Asked, sources: list[int], targets: list[int], forms: lis
     makes["series"] = lambda side: pandas.Series(side, dtype=None if side else object)
     rows, columns = ([asked.keys[node] for node in side] for side in (sources, targets))
     found = asked.hierarchy.matrix(*(makes[form](side) for form, side in zip(forms, (rows, columns))), missing=missing)
+    summed = asked.hierarchy.matrix(rows, columns, missing=missing, sums=["metres"])
     is_frame = any(form in ("series", "index") or form != "array" and asked.hierarchy.keys is not None for form in forms)
     assert isinstance(found, pandas.DataFrame) == is_frame
-    if is_frame:
-        assert [axis.tolist() for axis in found.axes] == [rows, columns] and all(axis.nlevels == 1 for axis in found.axes)
-    stand = missing if missing is not None else None if is_frame else -1
-    wanted = [[asked.lengths[source].get(target, stand) for target in targets] for source in sources]
-    cells = found.to_numpy(object).tolist() if is_frame else found.tolist()
-    assert [[None if value is pandas.NA else value for value in row] for row in cells] == wanted
-    if missing is None:
-        table = np.asarray(domethyme.unscaled(found), float).tolist()
-        assert table == [[asked.lengths[source].get(target, math.inf) for target in targets] for source in sources]
-    summed, none = asked.hierarchy.matrix(rows, columns, missing=missing, sums=["metres"]), 0 if missing == 0 else math.inf
-    lengths = [[asked.lengths[source].get(target, none) for target in targets] for source in sources]
-    assert np.asarray(domethyme.unscaled(summed["length"]), float).tolist() == lengths
+    assert not is_frame or [(axis.tolist(), axis.nlevels) for axis in found.axes] == [(rows, 1), (columns, 1)]
+    stand, none = missing if missing is not None else None if is_frame else -1, 0 if missing == 0 else math.inf
+    lengths = [[asked.lengths[source].get(target) for target in targets] for source in sources]
+    assert plain(found) == [[stand if length is None else length for length in row] for row in lengths]
+    for table in [summed["length"], *[found] * (missing is None)]:
+        floats = np.asarray(domethyme.unscaled(table), float).tolist()
+        assert floats == [[none if length is None else length for length in row] for row in lengths]
     for source, row in zip(sources, np.asarray(summed["metres"], float).reshape(len(sources), len(targets)), strict=True):
-        millimetres = millimetres_reached(asked.net, asked.lengths[source], {source: 0})
-        for target, metres in zip(targets, row, strict=True):
-            is_missing = math.isnan(metres) if missing is None else metres == missing
-            assert round(1000 * metres) in millimetres[target] if target in millimetres else is_missing
+        check_metres(row, targets, asked.net, asked.lengths[source], {source: 0}, math.nan if missing is None else missing)
+
+
+def check_metres(found: Any, nodes: Iterable[int], net: Network, lengths: dict[int, int], starts: dict[int, int], missing: float) -> None:
+    """The metres to some nodes are those along a shortest path to each."""
+    millimetres = millimetres_reached(net, lengths, starts)
+    for node, metres in zip(nodes, found, strict=True):
+        assert round(1000 * metres) in millimetres[node] if node in lengths else np.array_equal(metres, missing, equal_nan=True)
 
 
 def check_between(asked: Asked, starts: dict[int, int], ends: dict[int, int], form: str) -> None:
@@ -185,40 +180,34 @@ def check_between(asked: Asked, starts: dict[int, int], ends: dict[int, int], fo
     sides: list[Any] = [{asked.keys[node]: added for node, added in side.items()} for side in (starts, ends)]
     if form != "mapping":
         sides = [list(side) if form == "alone" else list(side.items()) for side in sides]
-    found = asked.hierarchy.between(*sides)
-    reached = asked.net.lengths(starts)
+    found, reached = asked.hierarchy.between(*sides), asked.net.lengths(starts)
     sums = [reached[node] + added for node, added in ends.items() if node in reached]
-    if not sums:
-        assert found is None
-        return
-    first, last = asked.node(found.source), asked.node(found.target)
-    assert found.added == starts[first] + ends[last] and found.length == min(sums) == found.added + asked.lengths[first][last]
-    assert is_route(asked, found.nodes, found.source, found.target, asked.lengths[first][last])
-    check_line(asked, found)
+    assert (found is None) == (not sums)
+    if found is not None:
+        first, last = asked.node(found.source), asked.node(found.target)
+        assert found.added == starts[first] + ends[last] and found.length == min(sums) == found.added + asked.lengths[first][last]
+        assert is_route(asked, found.nodes, found.source, found.target, asked.lengths[first][last])
+        check_line(asked, found)
 
 
 def check_reach(asked: Asked, starts: dict[int, int], limit: int | None, towards: bool) -> None:
-    found = asked.hierarchy.reach({asked.keys[node]: added for node, added in starts.items()}, limit, towards)
-    wanted = (asked.net.turned if towards else asked.net).lengths(starts)
-    most = 1 << 62 if limit is None else limit
-    expected = [wanted[node] if wanted.get(node, math.inf) <= most else -1 for node in range(len(asked.keys))]
-    values = found.tolist() if isinstance(found, np.ndarray) else found.fillna(-1).tolist()
-    assert values == expected
-    summed = asked.hierarchy.reach({asked.keys[node]: added for node, added in starts.items()}, limit, towards, sums=["metres"])
+    by_key, net = {asked.keys[node]: added for node, added in starts.items()}, asked.net.turned if towards else asked.net
+    found, summed = (asked.hierarchy.reach(by_key, limit, towards, sums=sums) for sums in ((), ["metres"]))
+    lengths = {node: length for node, length in net.lengths(starts).items() if limit is None or length <= limit}
+    is_array, count = isinstance(found, np.ndarray), len(asked.keys)
+    assert plain(found) == [lengths.get(node, -1 if is_array else None) for node in range(count)]
     assert [*summed] == ["length", "metres"] and [*map(type, summed.values())] == [type(found)] * 2
     for each in (found, *summed.values()):
-        assert isinstance(each, np.ndarray) or (each.index.tolist(), each.index.nlevels) == (asked.keys, 1)
-    assert domethyme.unscaled(summed["length"]).tolist() == domethyme.unscaled(found).tolist()
-    millimetres = millimetres_reached(asked.net.turned if towards else asked.net, wanted, starts)
-    for node, metres in enumerate(np.asarray(summed["metres"], float)):
-        assert round(1000 * metres) in millimetres[node] if expected[node] >= 0 else math.isnan(metres)
+        assert is_array or (each.index.tolist(), each.index.nlevels) == (asked.keys, 1)
+    assert plain(summed["length"]) == plain(found)
+    check_metres(np.asarray(summed["metres"], float), range(count), net, lengths, starts, math.nan)
 
 
 def millimetres_reached(net: Network, lengths: dict[int, int], starts: dict[int, int], most: int = 12) -> dict[int, set[int]]:
     """Those along each shortest path of at most so many arcs from a start, by the node to which it leads."""
     last = {node: {0} if starts.get(node) == length else set[int]() for node, length in lengths.items()}
     found = {node: {*millimetres} for node, millimetres in last.items()}
-    arcs = [arc for arc in net.arcs if arc.start in lengths and lengths[arc.start] + arc.weight == lengths[arc.end]]
+    arcs = [arc for arc in net.arcs if arc.start in lengths and lengths[arc.start] + arc.weight == lengths.get(arc.end)]
     for _ in range(most):
         longer: dict[int, set[int]] = {node: set() for node in lengths}
         for arc in arcs:
@@ -246,25 +235,22 @@ def test_ids_of_a_map(data: Any) -> None:
             given.keys.save(f"{folder}/net.rch")
         with domethyme.Hierarchy(f"{folder}/net.rch", keys=domethyme.Keys.load(f"{folder}/net.rch"), network=network) as hierarchy:
             starts, targets = (data.draw(st.lists(st.sampled_from(known), min_size=1, max_size=4, unique=True)) for _ in range(2))
-            lengths = [made.tables.lengths({begins[start]: 0}) for start in starts]
-            wanted = [
-                [0 if start == target else found.get(ends[target], -1) for target in targets] for start, found in zip(starts, lengths)
-            ]
-            pairs, flat = [(start, target) for start in starts for target in targets], [length for row in wanted for length in row]
-            alone = [hierarchy.length(*pair) for pair in pairs]
-            assert hierarchy.lengths(pairs).tolist() == flat == [-1 if each is None else each for each in alone]
+            lengths = {start: made.tables.lengths({begins[start]: 0}) for start in starts}
+            pairs = [(start, target) for start in starts for target in targets]
+            wanted = [0 if start == target else lengths[start].get(ends[target]) for start, target in pairs]
+            flat, floats = [-1 if each is None else each for each in wanted], [math.inf if each is None else each for each in wanted]
+            assert [hierarchy.length(*pair) for pair in pairs] == wanted and hierarchy.lengths(pairs).tolist() == flat
             routes = hierarchy.routes(pairs)
             assert routes.lengths.tolist() == flat and routes.to_frame()[["from", "to"]].to_numpy().tolist() == [*map(list, pairs)]
-            assert hierarchy.matrix(np.array(starts), np.array(targets)).tolist() == wanted
+            assert hierarchy.matrix(np.array(starts), np.array(targets)).ravel().tolist() == flat
             summed = hierarchy.matrix(starts, targets, sums=["metres"])
-            found = domethyme.unscaled(summed["length"]).to_numpy().tolist()
-            assert found == [[each if each >= 0 else math.inf for each in row] for row in wanted]
+            assert domethyme.unscaled(summed["length"]).to_numpy().ravel().tolist() == floats
             assert all(summed["metres"].loc[key, key] == 0 for key in {*starts} & {*targets})
-            way, there = hierarchy.between(starts, dict.fromkeys(targets, 7)), hierarchy.reach(targets, towards=True).fillna(-1)
-            assert (-1 if way is None else way.length - 7) == min((length for length in flat if length >= 0), default=-1)
+            way, there = hierarchy.between(starts, dict.fromkeys(targets, 7)), hierarchy.reach(targets, towards=True)
+            assert (math.inf if way is None else way.length - 7) == min(floats)
             assert way is None or way.source in starts and way.target in targets
-            least = [min((each for each in row if each >= 0), default=-1) for row in wanted]
-            assert [there.iloc[begins[start]] for start in starts] == least and there.index.tolist() == [*hierarchy.keys]
+            least = [min(floats[row : row + len(targets)]) for row in range(0, len(floats), len(targets))]
+            assert [domethyme.unscaled(there).iloc[begins[start]] for start in starts] == least and there.index.tolist() == [*hierarchy.keys]
 
 
 @drawn(110)
@@ -274,7 +260,7 @@ def test_places(data: Any) -> None:
     made = data.draw(networks(["duration", "distance"]))
     with tempfile.TemporaryDirectory() as folder:
         write_network(made, pathlib.Path(folder) / "net")
-        keys = data.draw(st.sampled_from([None, [f"key {node}" for node in range(len(made.tables.nodes))]])) if not made.has_keys else None
+        keys = [f"key {node}" for node in range(len(made.tables.nodes))] if not made.has_keys and data.draw(st.booleans()) else None
         hierarchy = domethyme.Hierarchy(f"{folder}/net.rch", network=f"{folder}/net", keys=keys)
         spots = data.draw(places(made.roads, 4))
         for number, place in enumerate(spots):
@@ -282,9 +268,8 @@ def test_places(data: Any) -> None:
                 check_nearest(hierarchy, made.tables, place, side)
             with_limits = {"duration": ("minutes", 60_000), "distance": ("metres", 100)}.get(made.roads.unit)
             is_flat = abs(place[1]) < 80 and all(arc.metres < 10_000 for arc in made.roads.arcs)
-            if with_limits is not None and is_flat:  # (else the plane of what is reached isn't the earth)
-                for towards in (False, True):
-                    check_roads(hierarchy, made.roads, spots[: number + 1][-2:], *with_limits, towards)
+            for towards in (False, True) if with_limits is not None and is_flat else ():  # (else the plane of what is reached isn't the earth)
+                check_roads(hierarchy, made.roads, spots[: number + 1][-2:], *with_limits, towards)
         if made.roads.unit == "distance":
             with pytest.raises(ValueError, match="aren't a time"):
                 hierarchy.reach([0], minutes=1)
@@ -307,7 +292,8 @@ def check_nearest(hierarchy: domethyme.Hierarchy, network: Network, place: Point
 
 def check_roads(hierarchy: domethyme.Hierarchy, roads: Network, where: list[Point], unit: str, factor: int, towards: bool) -> None:
     """The lines that are reached from places, or lead there, by their points; where they cross the 180th meridian by their metres."""
-    radius, values, colors = 30.5 if towards else 1000.0, {"minutes": [0.1, 0.3], "metres": [70, 250]}[unit], ["ffff00", "00ff00"]
+    radius, colors = 30.5 if towards else 1000.0, ["ffff00", "00ff00"]
+    values, metric = {"minutes": ([0.1, 0.3], "time"), "metres": ([70, 250], "distance")}[unit]
     try:
         points = [point for place in where if (point := roads.snap(place, radius))]
     except Ambiguous:
@@ -323,10 +309,8 @@ def check_roads(hierarchy: domethyme.Hierarchy, roads: Network, where: list[Poin
     assert [feature["properties"]["color"] for feature in found] == [f"#{color}" for color in colors[::-1]]
     for feature, value in zip(found, reversed(values), strict=True):
         said, geometry = feature["properties"], feature["geometry"]
-        assert (said["contour"], said["metric"]) == (value, {"minutes": "time", "metres": "distance"}[unit])
-        parts = [] if geometry is None else geometry["coordinates"]
-        parts = [parts] if geometry and geometry["type"] == "LineString" else parts
-        lines = [[(lon, lat) for lon, lat in part] for part in parts]
+        assert (said["contour"], said["metric"]) == (value, metric)
+        lines = rings_of(geometry) if geometry else []
         expected = reached_lines(roads.turned if towards else roads, points, round(value * factor))
         if any(max(lon for lon, _ in line) - min(lon for lon, _ in line) > 180 for line in expected):
             metres = [sum(along(line)[-1] for line in some) for some in (lines, expected)]
@@ -373,14 +357,10 @@ def test_frames_keys_and_attribution(data: Any) -> None:
 def check_frames(made: Drawn, network: Any) -> None:
     nodes, arcs = network.nodes_frame(), network.arcs_frame()
     keys = [node.key for node in made.tables.nodes]  # (texts all, since one is no number)
-    assert list(network.keys()) == keys if hasattr(network.keys(), "__iter__") else network.keys().key(0) == keys[0]
-    assert network.has_names and nodes.index.tolist() == [*range(len(keys))]
-    assert nodes["key"].tolist() == keys and nodes["ends"].tolist() == [node.ends for node in made.tables.nodes]
-    osm = [None if str(value) in ("nan", "<NA>") else int(value) for value in nodes["osm"].tolist()]
-    assert osm == [node.osm for node in made.tables.nodes]
-    assert list(zip(nodes["lon"], nodes["lat"])) == [node.place for node in made.tables.nodes]
-    rows = arcs[["from", "to", "weight", "seconds", "metres", "osm", *Arc._fields[7:]]].itertuples(index=False)
-    assert [tuple(row) for row in rows] == [(*arc[:5], *arc[6:]) for arc in made.tables.arcs]
-    assert arcs["toll"].tolist() == ["yes" if arc.way % 4 == 1 else "" for arc in made.tables.arcs] and not arcs["structure"].any()
+    assert [*network.keys()] == keys and network.has_names and nodes.index.tolist() == [*range(len(keys))]
+    assert plain(nodes[["lon", "lat", "key", "osm", "ends"]]) == [[*node] for node in made.tables.nodes]
+    columns = ["from", "to", "weight", "seconds", "metres", "osm", *Arc._fields[7:], "toll", "structure"]
+    wanted = [[*arc[:5], *arc[6:], "yes" if arc.way % 4 == 1 else "", ""] for arc in made.tables.arcs]
+    assert plain(arcs[columns]) == wanted
     lines = [[tuple(map(float, point.split())) for point in text[12:-1].split(", ")] for text in arcs["WKT"]]
     assert lines == [list(arc.line) for arc in made.tables.arcs]

@@ -62,23 +62,6 @@ def test_a_drive_along_a_street(village, monkeypatch, step, turn):
     assert again.points == way.geojson()["properties"]["points"] == way.points and way.directions._repr_html_() is None
 
 
-@pytest.mark.parametrize("metres, is_near", [(14.8, True), (15.2, False)])
-def test_places_beside_a_street(village, metres, is_near):
-    """Roads within three deviations count, which are of 5 m where nobody says so."""
-    places = village.match(street(0.0005, 0.0009, north=metres / STEP / 1000)).places
-    assert [place is not None for place in places] == [is_near] * 2
-
-
-def test_numbers_of_numpy(village):
-    """A bearing decides on the direction of a street, though the places are nearly one."""
-    roads, found = village.network.roads, []
-    for bearing in (90, 270):
-        (_,), places = village.match(street(0.0005, 0.00051), deviation=np.float32(20), bearings=np.full((2, 2), (bearing, 30)))
-        (arc,) = places[0].arcs
-        found.append(roads.arc(arc).is_along == (roads.edge(places[0].edge).points[0][0] == 0.0))
-    assert found == [True, False]
-
-
 def test_an_island(village):
     """Where no way leads on another one begins, but for up to three places in a row; more than three between others are left out too."""
     far, steps = [(0.020 + 0.0004 * number, 0.005) for number in (0, 1, 2, 0)], street(*(0.0001 + 0.0004 * number for number in range(6)))
@@ -106,7 +89,8 @@ def test_arguments_that_are_refused(village):
     ]:
         with pytest.raises(ValueError, match=re.escape(says)):
             village.match(**{"trace": street(0.0001, 0.0005), **words})
-    assert len(village.match(street(0.0001, 0.0005), [3, 3], deviation=[200, 200]).matchings) == 1
+    for words in ({"deviation": [200, 200]}, {"deviation": np.float32(20), "bearings": np.full((2, 2), (90, 30))}):
+        assert len(village.match(street(0.0001, 0.0005), [3, 3], **words).matchings) == 1
 
 
 BESIDE = "lon,lat\n0.0003,0.0003\n0.0008,0.0003\n"
@@ -130,12 +114,12 @@ def test_tool(village, tmp_path, text, words, wanted):
 @given(st.data())
 def test_places_that_decide(data):
     """What is left out as tidy, where a gap of time is, and each k-th place are the model's."""
-    count = data.draw(st.integers(2, 12))
+    count, is_dense = data.draw(st.one_of(st.integers(2, 12), st.just(40))), data.draw(st.booleans())
 
     def some(*values):
         return data.draw(st.lists(st.sampled_from(values), min_size=count, max_size=count))
 
-    places = [(9.5 + 2.7e-5 * step, 0.0) for step in itertools.accumulate(some(0, 1, 2, 5, 9, 10, 11, 20))]
+    places = [(9.5 + 2.7e-5 * step, 0.0) for step in itertools.accumulate(some(0, 1, 1) if is_dense else some(0, 1, 2, 5, 9, 10, 11, 20))]
     seconds = [*itertools.accumulate(some(0, 1, 4, 5, 6, 6, 60, 61, 100, 700))] if data.draw(st.integers(0, 3)) else []
     words, is_tidy, gaps = some("", "1.5", "5", "10"), data.draw(st.booleans()), data.draw(st.sampled_from(["split", "ignore"]))
     query = {"radiuses": ";".join(words), "timestamps": ";".join(map(str, seconds)), "gaps": gaps, "tidy": str(is_tidy).lower()}
@@ -169,13 +153,13 @@ def ladder(tmp_path_factory):
 def test_ways_on_a_ladder(ladder, data):
     """The points of each way, their places, its weight and its confidence are the model's, by all ways through all states."""
     roads, hierarchy = ladder
-    count, one_of = data.draw(st.sampled_from([2, 3, 4, 4, 5, 6, 6])), lambda *values: data.draw(st.sampled_from(values))
+    count, one_of = data.draw(st.sampled_from([2, 2, 3, 4, 4, 5, 6, 6])), lambda *values: data.draw(st.sampled_from(values))
     steps = [one_of(5, 7, 9, 12, -6) for _ in range(count - 1)]
     for at in data.draw(st.sets(st.integers(0, count - 2), max_size=(count - 2) // 2)):
         steps[at] = one_of(-0.3, -0.5, -0.8, -1.5)  # (fewer than half, so each place decides)
     east = itertools.accumulate(steps, initial=one_of(-1, 0, 2, 9))
     places = [(1e-4 * each, 1e-5 * (one_of(0, 0, 12) + data.draw(st.integers(-5, 5)))) for each in east]
-    words = [one_of("", "2", "3", *(("8", "20", "45") if count == 2 else ())) for _ in places]
+    words = [one_of("", "2", "3", *(("8", "20", "45", "45", "45") if count == 2 else ())) for _ in places]
     bearings = [one_of("", "90,60", "270,160") for _ in places]
     request = Request("match", places, {"radiuses": ";".join(words), "bearings": ";".join(bearings)})
     with contextlib.suppress(Ambiguous):
