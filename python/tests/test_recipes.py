@@ -48,25 +48,31 @@ def moved_village(folder):
     return folder / "li.osm"
 
 
-def program():
-    return pathlib.Path(os.environ["ROUTECLI"]).resolve()
-
-
-def place_with(folder, *names):
-    """A folder with these of the clone, the program as routecli, and one for files; and the PATH that has it."""
-    for name in names:
-        (folder / name).symlink_to(ROOT / name)
-    (folder / "out").mkdir()
+def commands(folder, **said):
+    """The environment with commands: the tools as the package names them, routecli, and those that are given as lines of sh."""
+    said |= {f"domethyme-{name.replace('_', '-')}": f'exec {TOOLS}/{name} "$@"' for name in ("osm_to_gr", "reweigh", "to_network", "without")}
+    said["routecli"] = f'exec {pathlib.Path(os.environ["ROUTECLI"]).resolve()} "$@"'
     (folder / "bin").mkdir()
-    (folder / "bin/routecli").symlink_to(program())
-    return f"{folder}/bin:{os.environ['PATH']}"
+    for name, lines in said.items():
+        (folder / "bin" / name).write_text(f"#!/bin/sh\n{lines}\n", encoding="utf-8")
+        (folder / "bin" / name).chmod(0o755)
+    return {**os.environ, "PATH": f"{folder}/bin:{os.environ['PATH']}"}
+
+
+@pytest.fixture
+def clone(tmp_path):
+    """A folder with some of the clone's, and one for files."""
+    (tmp_path / "out").mkdir()
+    for name in ("examples", "tools", "python"):
+        (tmp_path / name).symlink_to(ROOT / name)
+    return tmp_path
 
 
 @pytest.mark.needs("curl")
-def test_from_osrm(tmp_path):
+def test_from_osrm(clone):
     """Each command, with the village in the place of the page's map; the service answers."""
-    environment = {**os.environ, "PATH": place_with(tmp_path, "tools")}
-    write_map(tmp_path / "out/liechtenstein-2013-08-03.osm.pbf", moved_village(tmp_path))
+    environment = commands(clone)
+    write_map(clone / "out/liechtenstein-2013-08-03.osm.pbf", moved_village(clone))
     # (nobody else is given a port that is bound; the service may listen at it)
     kept = socket.socket()
     kept.setsockopt(socket.SOL_SOCKET, socket.SO_REUSEADDR, 1)
@@ -77,7 +83,7 @@ def test_from_osrm(tmp_path):
     serving = serving.replace("9.5090,47.1650", "9.5225,47.1410").replace("--retry 50 ", f"--retry {SECONDS} ")  # (what only a hang exceeds)
     with kept:
         for block in (f"trap 'kill $(jobs -p); wait' EXIT\n{serving}", pricing):
-            ran = subprocess.run(["bash", "-euc", block], cwd=tmp_path, env=environment, capture_output=True, text=True)
+            ran = subprocess.run(["bash", "-euc", block], cwd=clone, env=environment, capture_output=True, text=True)
             assert ran.returncode == 0, ran.stderr
             printed = ran.stdout if block == pricing else json.loads(ran.stdout)["code"]
             assert printed.strip() == ("right" if block == pricing else "Ok")
@@ -85,10 +91,10 @@ def test_from_osrm(tmp_path):
     assert {"tools/osm_to_gr", "tools/domethyme-serve", "routecli", "curl"} == typed
 
 
-def test_own_data(tmp_path, monkeypatch):
-    monkeypatch.setenv("PATH", place_with(tmp_path, "examples", "tools", "python"))
-    monkeypatch.chdir(tmp_path)
-    assert session(OWN_DATA) == 10 and (tmp_path / "out/firm.svg").stat().st_size > 1000
+def test_own_data(clone, monkeypatch):
+    monkeypatch.setenv("PATH", commands(clone)["PATH"])
+    monkeypatch.chdir(clone)
+    assert session(OWN_DATA) == 10 and (clone / "out/firm.svg").stat().st_size > 1000
 
 
 @pytest.mark.parametrize("page, name", [
@@ -96,18 +102,18 @@ def test_own_data(tmp_path, monkeypatch):
     pytest.param(PYTHON_PAGE, "osmnx", marks=pytest.mark.needs("import:osmnx")), (OWN_DATA, "pandas"),
     pytest.param(PYTHON_PAGE, "folium", marks=[pytest.mark.needs("import:geopandas"), pytest.mark.needs("import:folium")]),
 ], ids=["networkx", "osmnx", "pandas", "folium"])
-def test_python(tmp_path, page, name):
+def test_python(clone, page, name):
     """Each block prints what its comments say; the map is the village, moved to where the page asks."""
     (block,) = blocks(page, f"import domethyme\nimport {name}\n")
-    (tmp_path / "out").mkdir()
-    (tmp_path / "out/town.osm").write_text(TOWN)
-    domethyme.from_osm(moved_village(tmp_path), tmp_path / "out/li").close()
+    (clone / "out/town.osm").write_text(TOWN)
+    domethyme.from_osm(moved_village(clone), clone / "out/li").close()
     environment = {**os.environ, "PYTHONPATH": os.pathsep.join([str(ROOT / "python"), os.environ.get("PYTHONPATH", "")])}
     code = block.replace("(9.5090, 47.1650)", "(9.5225, 47.1410)")
-    ran = subprocess.run(["/usr/bin/python3", "-c", code], cwd=tmp_path, env=environment, capture_output=True, text=True)
+    ran = subprocess.run(["/usr/bin/python3", "-c", code], cwd=clone, env=environment, capture_output=True, text=True)
     assert ran.returncode == 0, ran.stderr
     assert ran.stdout.splitlines() == re.findall(r"print\(.*\) +# (.*)", block)
-    assert name != "folium" or "geojson" in (tmp_path / "out/page.html").read_text().lower() and (tmp_path / "out/routes.gpkg").stat().st_size > 10_000
+    made = [clone / f"out/{made}" for made in ("page.html", "routes.gpkg")]
+    assert name != "folium" or "geojson" in made[0].read_text().lower() and made[1].stat().st_size > 10_000
 
 
 def ranks_in(path):
@@ -120,18 +126,6 @@ class RecipeTests(NginxCase):
     def here(self, text):
         """A text with the test's folder before the folders of the machine that it writes to, and reads units from."""
         return re.sub(r"(?<![\w.])/(?=(?:etc|lib|var/lib)/)", f"{self.folder}/", text)
-
-    def commands(self, **said):
-        """A folder of commands: the tools as the package names them, routecli, and those that are given as lines of sh."""
-        folder = self.folder / "bin"
-        folder.mkdir()
-        for name in ("osm_to_gr", "reweigh", "to_network", "without"):
-            said["domethyme-" + name.replace("_", "-")] = f'exec {TOOLS}/{name} "$@"'
-        said["routecli"] = f'exec {program()} "$@"'
-        for name, lines in said.items():
-            (folder / name).write_text(f"#!/bin/sh\n{lines}\n", encoding="utf-8")
-            (folder / name).chmod(0o755)
-        return {"PATH": f"{folder}:{os.environ['PATH']}"}
 
     def machine(self):
         """What the package installs, below the folder."""
@@ -146,7 +140,7 @@ class RecipeTests(NginxCase):
         self.machine()
         write_map(self.folder / "country.osm.pbf", VILLAGE)
         (block,) = blocks(PAGE, "domethyme-osm-to-gr --profile bicycle")
-        self.run_program(["sh", "-euc", self.here(block)], environment=self.commands(systemctl=f"echo $* >> {self.folder}/asked"))
+        self.run_program(["sh", "-euc", self.here(block)], environment=commands(self.folder, systemctl=f"echo $* >> {self.folder}/asked"))
         self.assertEqual((self.folder / "asked").read_text(), "enable --now domethyme-bicycle\n")
 
         default = (self.folder / "etc/default/domethyme-bicycle").read_text()
@@ -172,9 +166,13 @@ class RecipeTests(NginxCase):
 
     def serve_both(self, bicycles):
         """The services of bicycles and of the village's cars, behind nginx by the shipped configuration with the page's lines."""
-        sockets = self.folder / "domethyme-bicycle"
+        sockets, self.said = self.folder / "domethyme-bicycle", ["the second service"]
         sockets.mkdir()
-        self.start(f"{bicycles}.rch", "--network", bicycles, "--bind", f"unix:{sockets}/serve.sock")
+        words = f"{bicycles}.rch", "--network", bicycles, "--bind", f"unix:{sockets}/serve.sock"
+        process = subprocess.Popen([TOOLS / "domethyme-serve", *words], stderr=subprocess.DEVNULL)
+        self.addCleanup(process.wait)
+        self.addCleanup(process.terminate)
+        self.wait_for(lambda: is_taken(f"{sockets}/serve.sock"))
         (upstream,), (locations,) = blocks(PAGE, "upstream domethyme_bicycle"), blocks(PAGE, "    location ~ ^/(route")
         text = SHIPPED.read_text(encoding="utf-8")
         for before, lines in (("server {\n", upstream), ("    location / {\n", locations)):
@@ -183,15 +181,6 @@ class RecipeTests(NginxCase):
         changed = self.write("changed.conf", text.replace("/run/domethyme-bicycle", str(sockets)))
         with unittest.mock.patch("nginx_case.SHIPPED", changed):
             self.serve_behind_nginx()
-
-    def start(self, *words):
-        """A service of its own, once its socket is there."""
-        process = subprocess.Popen([TOOLS / "domethyme-serve", *map(str, words)], stderr=subprocess.DEVNULL)
-        self.addCleanup(process.wait)
-        self.addCleanup(process.terminate)
-        self.said = ["the second service"]
-        self.wait_for(lambda: is_taken(words[-1].removeprefix("unix:")))
-        return process
 
     @pytest.mark.needs("curl")
     def test_each_night(self):
@@ -204,7 +193,7 @@ class RecipeTests(NginxCase):
         process = self.serve_network(served / "network", "--exclude", f"motorway={served}/network.without-motorway.rch")
         before = self.ask("/health")[1]["nodes"]
         write_map(self.folder / "village.osm.pbf", VILLAGE)
-        checksum, environment = hashlib.md5((self.folder / "village.osm.pbf").read_bytes()).hexdigest(), self.commands()
+        checksum, environment = hashlib.md5((self.folder / "village.osm.pbf").read_bytes()).hexdigest(), commands(self.folder)
         night = ["sh", REFRESH, f"file://{self.folder}/village.osm.pbf", served / "network"]
         self.write("village.osm.pbf.md5", f"{checksum}  village.osm.pbf\n")
         self.run_program(night, environment={**environment, "SHRINK": "0.3", "EXCLUDE": "tunnel motorway"})
@@ -237,7 +226,7 @@ class RecipeTests(NginxCase):
         served, asked = self.folder / "var/lib/domethyme", self.folder / "asked"
         shutil.copy(ROOT / "packaging/domethyme-refresh.service", self.folder / "lib/systemd/system")
         (night,), (hour,) = blocks(PAGE, "sed 's|domethyme/network|domethyme/map|'"), blocks(PAGE, "cd /var/lib/domethyme\ndomethyme-reweigh")
-        environment = self.commands(systemctl=f"echo $* >> {asked}")
+        environment = commands(self.folder, systemctl=f"echo $* >> {asked}")
         self.run_program(["sh", "-euc", self.here(night)], environment=environment)
         unit = (self.folder / "etc/systemd/system/domethyme-refresh.service").read_text()
         self.assertIn("\nExecStart=/usr/libexec/domethyme/refresh $URL /var/lib/domethyme/map\n", unit)
