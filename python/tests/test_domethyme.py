@@ -311,7 +311,7 @@ def test_weights_that_are_no_whole_numbers(tmp_path):
         with pytest.raises(ValueError, match="weights times 1000 have to be from 0"):
             domethyme.Graph.from_keys(["a", "b"], ["b", "c"], weights, scale=1000)
     assert domethyme.Graph.from_keys(["a"], ["b"], [4294967.295], scale=1000).weights.tolist() == [(1 << 32) - 1]
-    graph = domethyme.Graph.from_keys(["a", "b"], ["b", "c"], [0.5, 2.0004], scale=1000)
+    graph = domethyme.Graph.from_keys(["a", "b"], ["b", "c"], [0.5, 1.9996], scale=1000)
     with graph.prepare(tmp_path / "scaled.rch") as hierarchy:
         lengths = [hierarchy.length("a", "c"), hierarchy.length("c", "a"), -1, pd.NA, 0]
         assert [domethyme.unscaled(length, 1000) for length in lengths] == [2.5, *[float("inf")] * 3, 0]
@@ -387,12 +387,13 @@ def test_keys_that_are_saved(tmp_path):
         domethyme.Hierarchy(path, keys=["b", "a", 7])
     whole = saved.read_text(encoding="utf-8")
     changes = ("keys 1", "keys 2"), ('"chosen":[]', '"chosen":[["a",2]]'), ('"a"', '"c"')
-    for text in ("", "[]", whole[:-1], *(whole.replace(*change) for change in changes)):
+    earlier = {name: each for name, each in json.loads(whole).items() if name not in ("sum", "ends")}
+    other = json.dumps({**earlier, "chosen": [["a", 2]]})  # (without a digest)
+    for text in ("", "[]", whole[:-1], *(whole.replace(*change) for change in changes), other):
         saved.write_text(text, encoding="utf-8")
         with pytest.raises(domethyme.FileError):
             domethyme.Keys.load(path)
         domethyme.Hierarchy(path, keys=["b", "a", 7]).close()
-    earlier = {name: each for name, each in json.loads(whole).items() if name not in ("sum", "ends")}
     saved.write_text(json.dumps(earlier), encoding="utf-8")
     assert [*domethyme.Keys.load(path)] == ["a", "b", 7]
     saved.write_text(whole, encoding="utf-8")
