@@ -181,16 +181,13 @@ def is_same_line(one: Points, other: Points, tolerance: float) -> bool:
 
     if not one or not other or not is_near(one[0], other[0]):
         return False
-    i = j = 0
-    while i + 1 < len(one) or j + 1 < len(other):
-        if i + 1 < len(one) and j + 1 < len(other) and is_near(one[i + 1], other[j + 1]):
-            i, j = i + 1, j + 1
-        elif i + 1 < len(one) and is_near(one[i + 1], other[j]):
-            i += 1
-        elif j + 1 < len(other) and is_near(other[j + 1], one[i]):
-            j += 1
-        else:
+    at, end = (0, 0), (len(one) - 1, len(other) - 1)
+    while at != end:
+        steps = ((at[0] + step, at[1] + beside) for step, beside in ((1, 1), (1, 0), (0, 1)))
+        near = [(i, j) for i, j in steps if i <= end[0] and j <= end[1] and is_near(one[i], other[j])]
+        if not near:
             return False
+        at = near[0]
     return True
 
 

@@ -88,7 +88,8 @@ def networks(draw: Any, kinds: Sequence[str] = KINDS, most: int = 8, origins: Se
         texts = way + 1, *(draw(st.sampled_from(some)) for some in (NAMES, REFS, REFS, JUNCTIONS)), highway
         arcs.append(draw_arc(draw, kind, start, end, line, texts))
         if draw(st.booleans()):
-            arcs.append(draw_arc(draw, kind, end, start, line[::-1], texts))
+            other = texts[0], draw(st.sampled_from(NAMES)), *texts[2:-1], {"track": "ferry", "ferry": "track"}.get(highway, highway)
+            arcs.append(draw_arc(draw, kind, end, start, line[::-1], other if draw(st.integers(0, 3)) == 0 else texts))
         if draw(st.integers(0, 5)) == 0:
             arcs.append(draw_arc(draw, kind, start, end, line, texts))
     has_ring = draw(st.integers(0, 3)) == 0  # (at the end of a road of the same name)
@@ -140,14 +141,12 @@ def split(roads: Network) -> Network:
     cost = np.array([turn_restrictions.FORBIDDEN * (pair in roads.forbidden) for pair in pairs], np.int32)
     copies = turn_restrictions.make_copies(nodes, turns, cost, len(roads.nodes))
     arc, starts, ends, _ = turn_restrictions.copied_arcs(copies, turns, cost, start, end)
-    words = ("", "from", "to", "no")
     is_split = set(nodes[copies.is_split].tolist())
     before = [node._replace(ends="from") if number in is_split else node for number, node in enumerate(roads.nodes)]
     more = [
         roads.nodes[beside]._replace(ends=turn_restrictions.ENDS[side], key=f"copy {number}")
         for number, (beside, side) in enumerate(zip(copies.beside.tolist(), copies.ends.tolist()))
     ]
-    assert set(words) == set(turn_restrictions.ENDS)
     rows = zip(arc.tolist(), starts.tolist(), ends.tolist())
     return Network([*before, *more], [roads.arcs[row]._replace(start=one, end=other) for row, one, other in rows], is_left=roads.is_left)
 
@@ -177,19 +176,17 @@ def write_tables(drawn: Drawn, folder: pathlib.Path) -> None:
     """The user's tables of a network, nodes.csv and arcs.csv."""
     nodes, arcs = drawn.tables.nodes, drawn.tables.arcs
     names = [node.key if drawn.has_keys else number for number, node in enumerate(nodes, 1)]
-    with open(folder / "nodes.csv", "w", newline="") as file:
-        rows = csv.writer(file)
-        rows.writerow(("node", "lon", "lat", "osm", "ends"))
-        rows.writerows(
-            (name, f"{node.lon:.7f}", f"{node.lat:.7f}", "" if node.osm is None else node.osm, node.ends)
-            for name, node in zip(names, nodes)
-        )
-    with open(folder / "arcs.csv", "w", newline="") as file:
-        rows = csv.writer(file)
-        rows.writerow(("from", "to", "weight", "seconds", "metres", "WKT", "osm", *Arc._fields[7:], "toll"))
-        for arc in arcs:
-            line = ", ".join(f"{lon:.7f} {lat:.7f}" for lon, lat in arc.line)
-            rows.writerow((names[arc.start], names[arc.end], *arc[2:5], f"LINESTRING ({line})", *arc[6:], "yes" if arc.way % 4 == 1 else ""))
+    rows = [("node", "lon", "lat", "osm", "ends"), *(
+        (name, f"{node.lon:.7f}", f"{node.lat:.7f}", "" if node.osm is None else node.osm, node.ends) for name, node in zip(names, nodes)
+    )]
+    lines = [", ".join(f"{lon:.7f} {lat:.7f}" for lon, lat in arc.line) for arc in arcs]
+    of_arcs = [("from", "to", "weight", "seconds", "metres", "WKT", "osm", *Arc._fields[7:], "toll"), *(
+        (names[arc.start], names[arc.end], *arc[2:5], f"LINESTRING ({line})", *arc[6:], "yes" if arc.way % 4 == 1 else "")
+        for arc, line in zip(arcs, lines)
+    )]
+    for table, some in (("nodes", rows), ("arcs", of_arcs)):
+        with open(folder / f"{table}.csv", "w", newline="") as file:
+            csv.writer(file).writerows(some)
 
 
 def model_of(prefix: pathlib.Path) -> Network:

@@ -44,7 +44,7 @@ def street(*east, north=0.0):
 def test_a_drive_along_a_street(village, monkeypatch, step, turn):
     """Each place is where it was drawn, some metres beside the street, and so is each leg's time; but for one beyond three deviations."""
     monkeypatch.setattr("domethyme.network.matching.STEPS_AT_ONCE", 2)
-    trace = [(0.0003 + step * number, 0.00002 * (-1) ** number + 0.0002 * (number == 7)) for number in range(16)][::turn]
+    trace = [(0.000304 + step * number, 0.00002 * (-1) ** number + 0.0002 * (number == 7)) for number in range(16)][::turn]
     (way,), places = village.match(trace)
     far = 7 if turn == 1 else 8
     assert way.points == [number for number in range(16) if number != far] and places[far] is None
@@ -72,23 +72,25 @@ def test_an_island(village):
         assert [way.points for way in village.match(trace).matchings] == wanted
 
 
-def test_arguments_that_are_refused(village):
-    for words, says in [
-        ({"trace": [(0, 0)]}, "two places or more"), ({"deviation": 0}, "above 0"), ({"deviation": 201}, "above 0"),
-        ({"deviation": [5]}, "one for each place"), ({"seconds": [1]}, "one for each place"),
-        ({"seconds": [2, 1]}, "don't fall"), ({"seconds": [1, math.nan]}, "have to be numbers"),
-        ({"gaps": "both"}, "gaps has to be"), ({"bearings": [None]}, "one for each place"),
-        ({"bearings": [(400, 1), None]}, "a bearing is"), ({"trace": [(0, 0), (200, 0)]}, "-180"),
-        ({"bearings": [90, None]}, "a bearing is"), ({"bearings": [("a", 1), None]}, "a bearing is"),
-        ({"bearings": 5}, "one for each place"), ({"seconds": [-math.inf, 1]}, "don't fall"),
-        ({"seconds": np.array([0, 9], "M8[ns]")}, "seconds have to be numbers"),
-        ({"seconds": np.array([0, 9], "m8[ns]")}, "have to be numbers"),
-        ({"seconds": [datetime.datetime(2024, 5, day) for day in (1, 2)]}, "seconds have to be numbers"),
-        ({"seconds": 5}, "one for each place"), ({"deviation": np.array(5.0)}, "one for each place"),
-        ({"deviation": None}, "have to be numbers"),
-    ]:
+REFUSED = {
+    "two places or more": [{"trace": [(0, 0)]}], "-180": [{"trace": [(0, 0), (200, 0)]}], "gaps has to be": [{"gaps": "both"}],
+    "above 0": [{"deviation": 0}, {"deviation": 201}], "don't fall": [{"seconds": [2, 1]}, {"seconds": [-math.inf, 1]}],
+    "one for each place": [{name: some} for name, some in (
+        ("deviation", [5]), ("deviation", np.array(5.0)), ("seconds", [1]), ("seconds", 5), ("bearings", [None]), ("bearings", 5))],
+    "have to be numbers": [{"deviation": None}, *({"seconds": some} for some in (
+        [1, math.nan], np.array([0, 9], "M8[ns]"), np.array([0, 9], "m8[ns]"), [datetime.datetime(2024, 5, day) for day in (1, 2)]))],
+    "a bearing is": [{"bearings": [some, None]} for some in ((400, 1), 90, ("a", 1))],
+}
+
+
+@pytest.mark.parametrize("says", REFUSED)
+def test_arguments_that_are_refused(village, says):
+    for words in REFUSED[says]:
         with pytest.raises(ValueError, match=re.escape(says)):
             village.match(**{"trace": street(0.0001, 0.0005), **words})
+
+
+def test_arguments_of_numpy(village):
     for words in ({"deviation": [200, 200]}, {"deviation": np.float32(20), "bearings": np.full((2, 2), (90, 30))}):
         assert len(village.match(street(0.0001, 0.0005), [3, 3], **words).matchings) == 1
 

@@ -61,8 +61,8 @@ def weight_rows(
 def table_rows(
     ask: NodeTables, roads: RoadIndex, starts: Sequence[SnappedPoint], ends: Sequence[SnappedPoint], cells: int, columns: Sequence[Column]
 ) -> Iterator[list[Ints]]:
-    """The same, and for each column of arcs, which `ask` sums up, the thousandths along a path of the least weight: of several the least
-    ones, of those between the nodes the ones that `ask` returns."""
+    """The same, and for each column of arcs, which `ask` sums up, the thousandths along a path of the least weight: of several those of one
+    that stays on an arc, or else the least ones, of those between the nodes the ones that `ask` returns."""
     entries, ends_by_key = Ends.of([end.entries for end in ends]), collections.defaultdict[object, list[int]](list)
     for number, end in enumerate(ends):
         for key in place_keys(end):
