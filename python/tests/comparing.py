@@ -109,8 +109,7 @@ class Simplified(NamedTuple):
         if line is None or len(line) < 2:
             return True
         shrink = math.cos(math.radians(every[0][1]))
-        sides = [max(axis) - min(axis) for axis in zip(*every)]
-        most = max(sides[0] * shrink, sides[1]) / 1000
+        most = max(scale * (max(axis) - min(axis)) for scale, axis in zip((shrink, 1), zip(*every))) / 1000
         flat, parts = unwrapped(line), [unwrapped(part) for part in self.lines]
         turn = round((flat[0][0] - every[0][0]) / 360) * 360
         kept = [((lon - turn) * shrink, lat) for lon, lat in flat]
@@ -144,11 +143,10 @@ def away_from(point: Point, begin: Point, end: Point) -> float:
 
 def unwrapped(line: Iterable[Point]) -> list[Point]:
     """A line whose longitudes go beyond 180 where it crosses that meridian."""
-    found: list[Point] = []
-    for lon, lat in line:
-        before = found[-1][0] if found else lon
-        found.append((before + math.remainder(lon - before, 360), lat))
-    return found
+    def follow(before: Point, point: Point) -> Point:
+        return before[0] + math.remainder(point[0] - before[0], 360), point[1]
+
+    return [*itertools.accumulate(line, follow)]
 
 
 def tolerance_of(form: str) -> float:
@@ -219,14 +217,8 @@ def rings_of(geometry: Any) -> list[list[Point]]:
 
 def is_inside(rings: Sequence[Points], place: Point) -> bool:
     """Whether a place is in an odd number of rings."""
-    crossings = 0
-    for ring in rings:
-        above = [point[1] > place[1] for point in ring]
-        for step in range(len(ring) - 1):
-            if above[step] != above[step + 1]:
-                (x, y), (other_x, other_y) = ring[step : step + 2]
-                crossings += place[0] < x + (place[1] - y) / (other_y - y) * (other_x - x)
-    return crossings % 2 == 1
+    steps = (step for ring in rings for step in itertools.pairwise(ring) if (step[0][1] > place[1]) != (step[1][1] > place[1]))
+    return sum(place[0] < x + (place[1] - y) / (other_y - y) * (other_x - x) for (x, y), (other_x, other_y) in steps) % 2 == 1
 
 
 def metres_to_line(rings: Sequence[Points], place: Point) -> float:

@@ -44,12 +44,15 @@ class Asked:
         write_network(made, folder / "net")
         self.net, count = made.tables, len(made.tables.nodes)
         self.keys = [KEYS[kind](node) for node in range(count)] if KEYS[kind] else [*map(number, range(count))]
-        keys = self.keys if KEYS[kind] else None
-        self.hierarchy = domethyme.Hierarchy(folder / "net.rch", keys=keys, network=folder / "net")
+        self.hierarchy = domethyme.Hierarchy(folder / "net.rch", keys=self.keys if KEYS[kind] else None, network=folder / "net")
         self.lengths = [self.net.lengths({node: 0}) for node in range(count)]
 
     def node(self, key: Any) -> int:
         return self.keys.index(key)
+
+    def is_route(self, keys: list[Any], source: Any, target: Any, length: int) -> bool:
+        """Whether nodes lead from one to another by arcs that weigh as much together."""
+        return self.net.is_path([*map(self.node, keys)], self.node(source), self.node(target), length)
 
 
 def plain(found: Any) -> list[Any]:
@@ -91,7 +94,7 @@ def check_pairs(asked: Asked, pairs: list[tuple[int, int]], form: str) -> None:
         assert (route is None) == (length is None)
         if route is not None:
             assert (route.source, route.target, route.length, route.arcs) == (source, target, length, count)
-            assert count == len(route.nodes) - 1 and is_route(asked, route.nodes, source, target, length)
+            assert count == len(route.nodes) - 1 and asked.is_route(route.nodes, source, target, length)
             check_line(asked, route)
     if any(isinstance(key, tuple) for key in asked.keys):
         return
@@ -106,7 +109,7 @@ def check_pairs(asked: Asked, pairs: list[tuple[int, int]], form: str) -> None:
     assert plain(lengths) == (wanted if form in FRAMES else [-1 if length is None else length for length in wanted])
     assert [routes.lengths.tolist(), routes.arcs.tolist()] == [[-1 if each is None else each for each in row] for row in (wanted, arcs)]
     for route, (source, target), length in zip(routes, by_key, wanted):
-        assert len(route) == 0 if length is None else is_route(asked, list(route), source, target, length)
+        assert len(route) == 0 if length is None else asked.is_route(list(route), source, target, length)
     features, frame = asked.hierarchy.network.geojson(routes)["features"], routes.to_frame()
     shown = [[feature["properties"][name] for name in ("from", "to", "length", "arcs")] for feature in features]
     assert shown == plain(frame) == [[*pair, *figures] for pair, *figures in zip(by_key, wanted, arcs)]
@@ -117,11 +120,6 @@ def check_pairs(asked: Asked, pairs: list[tuple[int, int]], form: str) -> None:
         part, same = routes[rows], asked.hierarchy.routes(given[rows])
         assert part == same and part.to_frame().equals(same.to_frame()) and [*map(list, part)] == [*map(list, routes)][rows]
     assert [list(routes[row - len(pairs)]) for row in range(len(pairs))] == [*map(list, routes)]
-
-
-def is_route(asked: Asked, keys: list[Any], source: Any, target: Any, length: int) -> bool:
-    """Whether nodes lead from one to another by arcs that weigh as much together."""
-    return asked.net.is_path([asked.node(key) for key in keys], asked.node(source), asked.node(target), length)
 
 
 def check_line(asked: Asked, route: Any) -> None:
@@ -138,10 +136,9 @@ def check_line(asked: Asked, route: Any) -> None:
         "seconds": Near(sum(arc.seconds for arc in arcs), 0.001) if network.has_seconds else None,
         "metres": Near(sum(arc.metres for arc in arcs), 0.011),
     })
-    points, geometry = [network.nodes[line[0]].place, *(point for arc in arcs for point in arc.line)], feature["geometry"]
-    parts = geometry["coordinates"] if geometry["type"] == "MultiLineString" else [geometry["coordinates"]]
+    points, parts = [network.nodes[line[0]].place, *(point for arc in arcs for point in arc.line)], rings_of(feature["geometry"])
     assert all(abs(b[0] - a[0]) <= 180 for part in parts for a, b in zip(part, part[1:]))
-    found = [(lon, lat) for part in parts for lon, lat in part if len(parts) == 1 or abs(lon) != 180]
+    found = [point for part in parts for point in part if len(parts) == 1 or abs(point[0]) != 180]
     assert len(found) > 1 and is_same_line(found, points, 1e-6), (found, points)
     assert len({*found}) == 1 or all(one != other for one, other in zip(found, found[1:])) or len(parts) > 1
 
@@ -186,7 +183,7 @@ def check_between(asked: Asked, starts: dict[int, int], ends: dict[int, int], fo
     if found is not None:
         first, last = asked.node(found.source), asked.node(found.target)
         assert found.added == starts[first] + ends[last] and found.length == min(sums) == found.added + asked.lengths[first][last]
-        assert is_route(asked, found.nodes, found.source, found.target, asked.lengths[first][last])
+        assert asked.is_route(found.nodes, found.source, found.target, asked.lengths[first][last])
         check_line(asked, found)
 
 

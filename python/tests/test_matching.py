@@ -1,5 +1,4 @@
-"""Traces by the package: on the village, where each figure is one of the drawing, and places on legs by plain enumeration. The ways of
-short traces are compared with the model's in test_generated_service.py."""
+"""Traces by the package: on the village, where each figure is one of the drawing, and on a ladder, and places on legs, by the model."""
 import contextlib
 import datetime
 import itertools
@@ -11,11 +10,11 @@ from types import SimpleNamespace
 
 import numpy as np
 import pytest
-from draws import ORIGINS, Drawn, drawn, points_near, run_tool, write_network
+from draws import ORIGINS, drawn, model_of, points_near, run_tool
 from hypothesis import given
 from hypothesis import strategies as st
 from model import matching as model_matching
-from model.network import Ambiguous, Arc, Network, Node
+from model.network import Ambiguous
 from model.request import Request
 from model.sphere import along, metres_between, nearest_on_segment, point_at
 from reach_case import Road, prepared
@@ -36,8 +35,8 @@ def village(tmp_path_factory):
         yield hierarchy
 
 
-def street(*east, north=0.0):
-    return [(lon, north) for lon in east]
+def street(*east):
+    return [(lon, 0.0) for lon in east]
 
 
 @pytest.mark.parametrize("step, turn", [(0.0001, 1), (0.0001, -1), (0.0004, 1)])
@@ -45,7 +44,7 @@ def test_a_drive_along_a_street(village, monkeypatch, step, turn):
     """Each place is where it was drawn, some metres beside the street, and so is each leg's time; but for one beyond three deviations."""
     monkeypatch.setattr("domethyme.network.matching.STEPS_AT_ONCE", 2)
     trace = [(0.000304 + step * number, 0.00002 * (-1) ** number + 0.0002 * (number == 7)) for number in range(16)][::turn]
-    (way,), places = village.match(trace)
+    (way,), places = village.match(trace, deviation=np.float32(5), bearings=np.full((16, 2), (180 - 90 * turn, 30)))
     far = 7 if turn == 1 else 8
     assert way.points == [number for number in range(16) if number != far] and places[far] is None
     for number, (place, (lon, lat)) in enumerate(zip(places, trace)):
@@ -88,11 +87,7 @@ def test_arguments_that_are_refused(village, says):
     for words in REFUSED[says]:
         with pytest.raises(ValueError, match=re.escape(says)):
             village.match(**{"trace": street(0.0001, 0.0005), **words})
-
-
-def test_arguments_of_numpy(village):
-    for words in ({"deviation": [200, 200]}, {"deviation": np.float32(20), "bearings": np.full((2, 2), (90, 30))}):
-        assert len(village.match(street(0.0001, 0.0005), [3, 3], **words).matchings) == 1
+    assert len(village.match(street(0.0001, 0.0005), [3, 3], deviation=[200, 200]).matchings) == 1
 
 
 BESIDE = "lon,lat\n0.0003,0.0003\n0.0008,0.0003\n"
@@ -138,16 +133,12 @@ def test_places_that_decide(data):
 @pytest.fixture(scope="module")
 def ladder(tmp_path_factory):
     """Two streets of five blocks, 13 m apart, with rungs between, each of another weight and one of one way; and its hierarchy."""
-    places = [(0.001 * (node // 2), 0.00012 * (node % 2)) for node in range(12)]
-    arcs = []
-    for way, step in enumerate([*((node, node + 2) for node in range(10)), *((node, node + 1) for node in range(0, 12, 2))], 1):
-        line = tuple(places[node] for node in step)
-        figures = 1200 * (7 * way % 11 + 2 + 8 * (way < 11)), 0.0, round(metres_between(*line), 2)
-        arcs += [Arc(*step[::turn], *figures, line[::turn], way) for turn in ((1, -1) if way != 13 else (1,))]
-    roads, prefix = Network([Node(*place) for place in places], arcs), tmp_path_factory.mktemp("ladder") / "net"
-    write_network(Drawn(roads, roads, False), prefix)
-    with domethyme.Hierarchy(f"{prefix}.rch", network=prefix) as hierarchy:
-        yield roads, hierarchy
+    steps = [*((node, node + 2) for node in range(10)), *((node, node + 1) for node in range(0, 12, 2))]
+    weights = [1200 * (7 * way % 11 + 2 + 8 * (way < 11)) for way in range(1, 17)]
+    roads = [Road(*step, weight, None if way == 12 else weight) for way, (step, weight) in enumerate(zip(steps, weights))]
+    places, prefix = [(0.001 * (node // 2), 0.00012 * (node % 2)) for node in range(12)], tmp_path_factory.mktemp("ladder") / "net"
+    with prepared(places, roads, prefix) as hierarchy:
+        yield model_of(prefix), hierarchy
 
 
 @drawn(250)

@@ -16,7 +16,7 @@ from tool_case import TOOLS, VILLAGE
 
 import domethyme
 from domethyme import atomic_files, batch, belonging, dimacs, hierarchy_file, links
-from domethyme.network import from_tables, net_file, parallel, reach, snapping
+from domethyme.network import from_tables, leg_tables, net_file, parallel, reach, snapping
 from domethyme_service import tiles
 from domethyme.network import table_files
 from domethyme_tools import on_roads, table
@@ -169,6 +169,20 @@ def test_in_parts_of_three(drawn, monkeypatch, module, constant, made):
     whole = made(drawn)
     monkeypatch.setattr(module, constant, 3)
     assert made(drawn) == whole and whole
+
+
+@pytest.mark.parametrize("cells, most_rows", [(1, 256), (60, 256), (1 << 20, 5), (1 << 20, 1)])
+def test_tables_by_parts(drawn, monkeypatch, cells, most_rows):
+    """Each part asks once, for whole rows to the same nodes."""
+    roads = drawn.hierarchy.network.roads
+    points = [roads.snap(tuple(place), edge) for edge, place in enumerate((drawn.network.points[:20] / 1e7).tolist())]
+    (whole,) = leg_tables.weight_rows(drawn.hierarchy.matrix, roads, points, points, 1 << 20)
+    monkeypatch.setattr(leg_tables, "MAX_ROWS", most_rows)
+    asked = []
+    parts = [*leg_tables.weight_rows(lambda *sides: asked.append(sides) or drawn.hierarchy.matrix(*sides), roads, points, points, cells)]
+    np.testing.assert_array_equal(np.concatenate(parts), whole)
+    assert len(parts) == len(asked) > 1 and all(np.array_equal(targets, asked[0][1]) for _, targets in asked)
+    assert max(map(len, parts)) == max(1, min(most_rows, cells // sum(len(point.entries) for point in points)))
 
 
 def test_shares_of_a_map(tmp_path):

@@ -154,12 +154,9 @@ class RecipeTests(NginxCase):
 
         self.serve_both(self.folder / "var/lib/domethyme/bicycle")
         for service, member in (("route", "routes"), ("trip", "trips"), ("match", "matchings")):
-            path, times = PLACE.replace("route", service), {}
-            for word in ("car", "bicycle"):
-                status, answer = self.ask(path.format(word))
-                self.assertEqual(status, 200, answer)
-                times[word] = answer[member][0]["duration"]
-            self.assertGreater(times["bicycle"], times["car"], service)
+            path = PLACE.replace("route", service)
+            car, bicycle = (self.ask(path.format(word))[1][member][0]["duration"] for word in ("car", "bicycle"))
+            self.assertGreater(bicycle, car, service)
             status, answer = self.ask(path.format("lorry"))
             self.assertEqual((status, answer["message"]), (404, "the vehicles are car and bicycle"))
         self.assertEqual(self.ask("/health")[1]["nodes"], self.graph.nodes)

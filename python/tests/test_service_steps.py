@@ -64,6 +64,16 @@ def test_a_turn_at_a_split_junction(tmp_path: pathlib.Path) -> None:
     assert turn["maneuver"]["type"] == "continue" and turn["maneuver"]["modifier"] == "left"
 
 
+def test_an_exit_by_two_arcs(tmp_path: pathlib.Path) -> None:
+    """A road that leads to two copies of a junction is one exit of a roundabout."""
+    places = [(-0.002, 0.0), (-0.001, 0.0), (0.0, -0.001), (0.001, 0.0), (0.0, -0.002), (0.002, 0.0)]
+    ways = [(0, 1, ""), (1, 2, "roundabout"), (2, 3, "roundabout"), (2, 4, ""), (2, 4, ""), (3, 5, "")]
+    arcs = [Arc(one, two, 8006, 8.006, 111.2, (places[one], places[two]), 10 * one + two, junction=kind) for one, two, kind in ways]
+    roads = Network([Node(*place) for place in places], arcs)
+    _, turn, _ = steps(tmp_path, Drawn(roads, roads, False), "-0.002,0;0.002,0")
+    assert turn["maneuver"]["exit"] == 2
+
+
 @pytest.mark.parametrize("end, side", [((0.001, 0.001), "left"), ((0.001, -0.001), "right")])
 def test_turns_of_45_degrees(tmp_path: pathlib.Path, end: tuple[float, float], side: str) -> None:
     """One of 46 begins a step, and is a turn; at one of 45 the road goes on, which may have a new name."""
