@@ -4,13 +4,15 @@ import datetime
 import itertools
 import json
 import math
+import pathlib
 import pickle
 import re
+import tempfile
 from types import SimpleNamespace
 
 import numpy as np
 import pytest
-from draws import ORIGINS, drawn, model_of, points_near, run_tool
+from draws import ORIGINS, drawn, model_of, networks, places, points_near, run_tool, write_network
 from hypothesis import given
 from hypothesis import strategies as st
 from model import matching as model_matching
@@ -160,6 +162,31 @@ def test_ways_on_a_ladder(ladder, data):
         found = hierarchy.match(places, deviation=model_matching.deviations(request), bearings=request.bearings()).matchings
         for way, options in zip(found, wanted, strict=True):
             assert any(is_way(way, option) for option in options)
+
+
+@drawn(150)
+@given(st.data())
+def test_ways_between_states(data):
+    """Those from each state of a place to each of another one are as likely as the model's, on networks whose junctions are split too."""
+    made = data.draw(networks(most=5))
+    request = Request("match", data.draw(places(made.roads, 2)), {"radiuses": data.draw(st.sampled_from(["20;20", "90;200", "200;60"]))})
+    with tempfile.TemporaryDirectory() as folder, contextlib.suppress(Ambiguous):
+        wanted = [model_matching.states(made.roads, request, number) for number in (0, 1)]
+        write_network(made, pathlib.Path(folder) / "net")
+        hierarchy = domethyme.Hierarchy(f"{folder}/net.rch", network=f"{folder}/net")
+
+        def sums(sources, targets):
+            found = hierarchy.matrix(sources, targets, missing=-1, sums=["metres"])
+            return found["length"], np.rint(1000 * found["metres"]).astype(int)
+
+        trace = Trace(request.places, None, model_matching.deviations(request), [None] * 2)
+        matcher = Matcher(None, sums, hierarchy.network.roads, trace)
+        states = matcher._states([0, 1])
+        assert [len(state.points) for state in states] == [*map(len, wanted)]
+        ways = matcher._ways_between([states])[0] if all(wanted) else []
+        for (start, end), way in zip(itertools.product(*wanted), np.ravel(ways), strict=True):
+            with contextlib.suppress(Ambiguous):
+                assert way == pytest.approx(-model_matching.surplus(made.roads, request, (0, 1), start, end), abs=2e-3)
 
 
 @pytest.mark.parametrize("east, count", [(0.0089, 1), (0.0091, 0)])
