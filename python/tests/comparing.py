@@ -9,6 +9,7 @@ from model.reach import is_within, reached
 from model.sphere import EARTH_RADIUS, Point, nearest_on_segment
 
 Points = Sequence[Point]
+TOLERANCES = {"polyline": 6.5e-6, "polyline6": 8.5e-7, "geojson": 8.5e-7}
 
 
 class Near(NamedTuple):
@@ -95,7 +96,7 @@ class Line(NamedTuple):
 
     def differs(self, found: Any) -> bool:
         line = decoded(found, self.form)
-        return line is None or not is_same_line(line, self.points, tolerance_of(self.form))
+        return line is None or not is_same_line(line, self.points, TOLERANCES[self.form])
 
 
 class Simplified(NamedTuple):
@@ -114,7 +115,7 @@ class Simplified(NamedTuple):
         turn = round((flat[0][0] - every[0][0]) / 360) * 360
         kept = [((lon - turn) * shrink, lat) for lon, lat in flat]
         whole = [(lon * shrink, lat) for lon, lat in every]
-        slack = 2 * tolerance_of(self.form)
+        slack = 2 * TOLERANCES[self.form]
         is_near = all(min(away_from(point, *step) for step in zip(kept, kept[1:])) <= most + slack for point in whole)
         is_of_line = all(min(math.dist(point, other) for other in whole) <= slack for point in kept)
         is_from_end_to_end = max(math.dist(kept[0], whole[0]), math.dist(kept[-1], whole[-1])) <= slack
@@ -136,8 +137,7 @@ def away_from(point: Point, begin: Point, end: Point) -> float:
     """How far a point of the plane is from a line."""
     step = end[0] - begin[0], end[1] - begin[1]
     square = step[0] ** 2 + step[1] ** 2
-    share = ((point[0] - begin[0]) * step[0] + (point[1] - begin[1]) * step[1]) / square if square else 0.0
-    share = min(1.0, max(0.0, share))
+    share = min(1.0, max(0.0, ((point[0] - begin[0]) * step[0] + (point[1] - begin[1]) * step[1]) / (square or 1.0)))
     return math.dist(point, (begin[0] + share * step[0], begin[1] + share * step[1]))
 
 
@@ -147,10 +147,6 @@ def unwrapped(line: Iterable[Point]) -> list[Point]:
         return before[0] + math.remainder(point[0] - before[0], 360), point[1]
 
     return [*itertools.accumulate(line, follow)]
-
-
-def tolerance_of(form: str) -> float:
-    return 6.5e-6 if form == "polyline" else 8.5e-7
 
 
 def decoded(found: Any, form: str) -> list[Point] | None:

@@ -115,11 +115,8 @@ def draw_arc(draw: Any, kind: str, start: int, end: int, line: tuple[Point, ...]
     number = draw(st.one_of(st.integers(0, 20), st.integers(0, 100_000)))
     metres = round(along(line)[-1], 2)
     number = (1 << 32) - 1 - number if kind == HEAVY else number
-    if kind == "duration":
-        return Arc(start, end, number, number / 1000, metres, line, *texts)
-    if kind == "distance":
-        return Arc(start, end, round(100 * metres), number / 1000, metres, line, *texts)
-    return Arc(start, end, number, 0.0 if kind == "weight alone" else number % 977 / 4, metres, line, *texts)
+    seconds = {"duration": number / 1000, "distance": number / 1000, "weight alone": 0.0}.get(kind, number % 977 / 4)
+    return Arc(start, end, round(100 * metres) if kind == "distance" else number, seconds, metres, line, *texts)
 
 
 def points_near(origin: Point, scale: int = 1) -> Any:
@@ -143,10 +140,8 @@ def split(roads: Network) -> Network:
     arc, starts, ends, _ = turn_restrictions.copied_arcs(copies, turns, cost, start, end)
     is_split = set(nodes[copies.is_split].tolist())
     before = [node._replace(ends="from") if number in is_split else node for number, node in enumerate(roads.nodes)]
-    more = [
-        roads.nodes[beside]._replace(ends=turn_restrictions.ENDS[side], key=f"copy {number}")
-        for number, (beside, side) in enumerate(zip(copies.beside.tolist(), copies.ends.tolist()))
-    ]
+    sides = enumerate(zip(copies.beside.tolist(), [turn_restrictions.ENDS[side] for side in copies.ends.tolist()]))
+    more = [roads.nodes[beside]._replace(ends=side, key=f"copy {number}") for number, (beside, side) in sides]
     rows = zip(arc.tolist(), starts.tolist(), ends.tolist())
     return Network([*before, *more], [roads.arcs[row]._replace(start=one, end=other) for row, one, other in rows], is_left=roads.is_left)
 
@@ -177,7 +172,7 @@ def write_tables(drawn: Drawn, folder: pathlib.Path) -> None:
     nodes, arcs = drawn.tables.nodes, drawn.tables.arcs
     names = [node.key if drawn.has_keys else number for number, node in enumerate(nodes, 1)]
     rows = [("node", "lon", "lat", "osm", "ends"), *(
-        (name, f"{node.lon:.7f}", f"{node.lat:.7f}", "" if node.osm is None else node.osm, node.ends) for name, node in zip(names, nodes)
+        (name, f"{lon:.7f}", f"{lat:.7f}", "" if osm is None else osm, ends) for name, (lon, lat, _, osm, ends) in zip(names, nodes)
     )]
     lines = [", ".join(f"{lon:.7f} {lat:.7f}" for lon, lat in arc.line) for arc in arcs]
     of_arcs = [("from", "to", "weight", "seconds", "metres", "WKT", "osm", *Arc._fields[7:], "toll"), *(
@@ -195,11 +190,10 @@ def model_of(prefix: pathlib.Path) -> Network:
     nodes, arcs = network.nodes_frame(), network.arcs_frame()
     osm = [int(value) if is_there else None for value, is_there in zip(nodes["osm"], nodes["osm"].notna())]
     lines = [tuple((float(lon), float(lat)) for lon, lat in map(str.split, text[12:-1].split(", "))) for text in arcs["WKT"]]
-    columns = [arcs[name].tolist() for name in ("from", "to", "weight", "seconds", "metres")]
-    texts = [arcs[name].tolist() for name in ("osm", *Arc._fields[7:])]
-    return Network(
-        map(Node, nodes["lon"].tolist(), nodes["lat"].tolist(), range(len(nodes)), osm), map(Arc, *columns, lines, *texts)
-    )
+    names = "from", "to", "weight", "seconds", "metres", "osm", *Arc._fields[7:]
+    columns = [arcs[name].tolist() for name in names]
+    columns.insert(5, lines)
+    return Network(map(Node, nodes["lon"].tolist(), nodes["lat"].tolist(), range(len(nodes)), osm), map(Arc, *columns))
 
 
 def run_tool(name: str, *words: object, given: str = "") -> tuple[str, str]:

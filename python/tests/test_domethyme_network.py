@@ -24,7 +24,7 @@ def test_a_relative_path(tmp_path, monkeypatch):
 
 
 def test_keys(tmp_path):
-    """Those of a map, in which a bollard parts node 53, and of a table: a key that names more than one junction can't be asked for."""
+    """Those of a map, in which a bollard parts node 53, and of a table: a key of more than one junction can't be asked for."""
     run_tool("osm_to_gr", VILLAGE, tmp_path / "v", "--tables")
     rows = [f"{key},{key / 1000},0,{end}" for key, ends in ENDS for end in ends]
     (tmp_path / "t.nodes.csv").write_text("\n".join(["node,osm,lon,lat,ends", *map("{},{}".format, range(1, 99), rows), ""]))

@@ -1,4 +1,5 @@
 """The package on drawn networks, with and without keys: lengths, routes, tables, what is reached, nodes and frames."""
+import contextlib
 import itertools
 import json
 import math
@@ -15,7 +16,7 @@ import pytest
 from draws import HEAVY, KINDS, Drawn, drawn, networks, places, run_tool, write_network
 from hypothesis import given
 from hypothesis import strategies as st
-from comparing import Near, difference, is_same_line, rings_of, unwrapped
+from comparing import Near, difference, is_same_line, rings_of
 from model.network import Ambiguous, Arc, Network
 from model.reach import reached_lines
 from model.sphere import Point, along
@@ -23,8 +24,7 @@ from model.sphere import Point, along
 import domethyme
 from domethyme import batch
 
-# Kinds of keys: none, texts that programs take for something else, pairs, numbers that are others' numbers of nodes, and such that
-# floats can't have, beside floats.
+# Kinds of keys: none, texts that programs take for something else, pairs, other nodes' numbers, and numbers beyond those of floats.
 ODD = ("NA", "007", "7", "=x", "-1", "a,b", "nan", "", "None")
 KEYS: dict[str, Any] = {
     "none": None, "texts": lambda node: ODD[node] if node < len(ODD) else f"key {node}",
@@ -57,7 +57,8 @@ class Asked:
 
 def plain(found: Any) -> list[Any]:
     """The values of an array, or of an object of pandas, None for missing ones."""
-    return [plain(row) if isinstance(row, (list, np.ndarray)) else None if row is pandas.NA else row for row in np.asarray(found, object).tolist()]
+    rows = np.asarray(found, object).tolist()
+    return [plain(row) if isinstance(row, list) else None if row is pandas.NA else row for row in rows]
 
 
 @drawn(110)
@@ -106,8 +107,9 @@ def check_pairs(asked: Asked, pairs: list[tuple[int, int]], form: str) -> None:
         rows = [[*each, *each[::-1] * (len(columns) - 1)] for each in by_key]  # (of several names the first ones count)
         given = pandas.DataFrame(rows, columns=[*itertools.chain(*columns)], index=index)
     lengths, routes = asked.hierarchy.lengths(given), asked.hierarchy.routes(given)
-    assert plain(lengths) == (wanted if form in FRAMES else [-1 if length is None else length for length in wanted])
-    assert [routes.lengths.tolist(), routes.arcs.tolist()] == [[-1 if each is None else each for each in row] for row in (wanted, arcs)]
+    filled = [[-1 if each is None else each for each in row] for row in (wanted, arcs)]
+    assert [routes.lengths.tolist(), routes.arcs.tolist()] == filled
+    assert plain(lengths) == (wanted if form in FRAMES else filled[0])
     for route, (source, target), length in zip(routes, by_key, wanted):
         assert len(route) == 0 if length is None else asked.is_route(list(route), source, target, length)
     features, frame = asked.hierarchy.network.geojson(routes)["features"], routes.to_frame()
@@ -163,7 +165,9 @@ def check_table(asked: Asked, sources: list[int], targets: list[int], forms: lis
         check_metres(row, targets, asked.net, asked.lengths[source], {source: 0}, math.nan if missing is None else missing)
 
 
-def check_metres(found: Any, nodes: Iterable[int], net: Network, lengths: dict[int, int], starts: dict[int, int], missing: float) -> None:
+def check_metres(
+    found: Any, nodes: Iterable[int], net: Network, lengths: dict[int, int], starts: dict[int, int], missing: float = math.nan
+) -> None:
     """The metres to some nodes are those along a shortest path to each."""
     millimetres = millimetres_reached(net, lengths, starts)
     for node, metres in zip(nodes, found, strict=True):
@@ -197,7 +201,7 @@ def check_reach(asked: Asked, starts: dict[int, int], limit: int | None, towards
     for each in (found, *summed.values()):
         assert is_array or (each.index.tolist(), each.index.nlevels) == (asked.keys, 1)
     assert plain(summed["length"]) == plain(found)
-    check_metres(np.asarray(summed["metres"], float), range(count), net, lengths, starts, math.nan)
+    check_metres(np.asarray(summed["metres"], float), range(count), net, lengths, starts)
 
 
 def millimetres_reached(net: Network, lengths: dict[int, int], starts: dict[int, int], most: int = 12) -> dict[int, set[int]]:
@@ -235,7 +239,7 @@ def test_ids_of_a_map(data: Any) -> None:
             lengths = {start: made.tables.lengths({begins[start]: 0}) for start in starts}
             pairs = [(start, target) for start in starts for target in targets]
             wanted = [0 if start == target else lengths[start].get(ends[target]) for start, target in pairs]
-            flat, floats = [-1 if each is None else each for each in wanted], [math.inf if each is None else each for each in wanted]
+            flat, floats = ([none if each is None else each for each in wanted] for none in (-1, math.inf))
             assert [hierarchy.length(*pair) for pair in pairs] == wanted and hierarchy.lengths(pairs).tolist() == flat
             routes = hierarchy.routes(pairs)
             assert routes.lengths.tolist() == flat and routes.to_frame()[["from", "to"]].to_numpy().tolist() == [*map(list, pairs)]
@@ -247,7 +251,8 @@ def test_ids_of_a_map(data: Any) -> None:
             assert (math.inf if way is None else way.length - 7) == min(floats)
             assert way is None or way.source in starts and way.target in targets
             least = [min(floats[row : row + len(targets)]) for row in range(0, len(floats), len(targets))]
-            assert [domethyme.unscaled(there).iloc[begins[start]] for start in starts] == least and there.index.tolist() == [*hierarchy.keys]
+            assert [domethyme.unscaled(there).iloc[begins[start]] for start in starts] == least
+            assert there.index.tolist() == [*hierarchy.keys]
 
 
 @drawn(110)
@@ -265,8 +270,9 @@ def test_places(data: Any) -> None:
                 check_nearest(hierarchy, made.tables, place, side)
             with_limits = {"duration": ("minutes", 60_000), "distance": ("metres", 100)}.get(made.roads.unit)
             is_flat = abs(place[1]) < 80 and all(arc.metres < 10_000 for arc in made.roads.arcs)
-            for towards in (False, True) if with_limits is not None and is_flat else ():  # (else the plane of what is reached isn't the earth)
-                check_roads(hierarchy, made.roads, spots[: number + 1][-2:], *with_limits, towards)
+            for towards in (False, True) if with_limits and is_flat else ():  # (else the plane of what is reached isn't the earth)
+                with contextlib.suppress(Ambiguous):
+                    check_roads(hierarchy, made.roads, spots[: number + 1][-2:], *with_limits, towards)
         if made.roads.unit == "distance":
             with pytest.raises(ValueError, match="aren't a time"):
                 hierarchy.reach([0], minutes=1)
@@ -290,11 +296,8 @@ def check_nearest(hierarchy: domethyme.Hierarchy, network: Network, place: Point
 def check_roads(hierarchy: domethyme.Hierarchy, roads: Network, where: list[Point], unit: str, factor: int, towards: bool) -> None:
     """The lines that are reached from places, or lead there, by their points; where they cross the 180th meridian by their metres."""
     radius, colors = 30.5 if towards else 1000.0, ["ffff00", "00ff00"]
+    points = [point for place in where if (point := roads.snap(place, radius))]
     values, metric = {"minutes": ([0.1, 0.3], "time"), "metres": ([70, 250], "distance")}[unit]
-    try:
-        points = [point for place in where if (point := roads.snap(place, radius))]
-    except Ambiguous:
-        return
     place: Any = where if len(where) > 1 else where[0]
     words: Any = {"shape": "roads", "towards": towards, "radius": radius, "colors": colors}
     if len(points) < len(where):
@@ -318,7 +321,7 @@ def check_roads(hierarchy: domethyme.Hierarchy, roads: Network, where: list[Poin
 
 def are_same_lines(found: list[list[Point]], expected: list[list[Point]]) -> bool:
     """Whether lines have the same points, but for such that are shown as one point."""
-    left = [unwrapped(line) for line in found]
+    left = [*found]
     for line in expected:
         same = next((each for each in left if is_same_line(each, line, 2.1e-6)), None)
         if same is not None:

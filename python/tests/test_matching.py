@@ -1,4 +1,4 @@
-"""Traces by the package: on the village, where each figure is one of the drawing, and on a ladder, and places on legs, by the model."""
+"""Traces by the package: on the village, where each figure is one of the drawing, and what is drawn by the model."""
 import contextlib
 import datetime
 import itertools
@@ -19,7 +19,6 @@ from model import matching as model_matching
 from model.network import Ambiguous
 from model.request import Request
 from model.sphere import along, metres_between, nearest_on_segment, point_at
-from reach_case import Road, prepared
 from tool_case import VILLAGE
 
 import domethyme
@@ -37,13 +36,9 @@ def village(tmp_path_factory):
         yield hierarchy
 
 
-def street(*east):
-    return [(lon, 0.0) for lon in east]
-
-
 @pytest.mark.parametrize("step, turn", [(0.0001, 1), (0.0001, -1), (0.0004, 1)])
 def test_a_drive_along_a_street(village, monkeypatch, step, turn):
-    """Each place is where it was drawn, some metres beside the street, and so is each leg's time; but for one beyond three deviations."""
+    """Each place is where it was drawn, some metres beside the street, and so is each leg's time, but for one that is too far."""
     monkeypatch.setattr("domethyme.network.matching.STEPS_AT_ONCE", 2)
     trace = [(0.000304 + step * number, 0.00002 * (-1) ** number + 0.0002 * (number == 7)) for number in range(16)][::turn]
     (way,), places = village.match(trace, deviation=np.float32(5), bearings=np.full((16, 2), (180 - 90 * turn, 30)))
@@ -64,22 +59,24 @@ def test_a_drive_along_a_street(village, monkeypatch, step, turn):
 
 
 def test_an_island(village):
-    """Where no way leads on another one begins, but for up to three places in a row; more than three between others are left out too."""
-    far, steps = [(0.020 + 0.0004 * number, 0.005) for number in (0, 1, 2, 0)], street(*(0.0001 + 0.0004 * number for number in range(6)))
+    """Where no way leads on another one begins, but for up to three places in a row, of which there may be more in all."""
+    far = [(0.020 + 0.0004 * number, 0.005) for number in (0, 1, 2, 0)]
+    near = [(0.0001 + 0.0004 * number, 0.0) for number in range(6)]
     for trace, wanted in [
-        (steps[:3] + far[:3], [[0, 1, 2], [3, 4, 5]]), (steps[:2] + far[:3] + steps[2:3], [[0, 1, 5]]),
-        (steps[:2] + far + steps[2:3], [[0, 1], [2, 3, 4, 5]]), ([place for step in steps for place in (step, far[0])], [[0, 2, 4, 6, 8, 10]]),
+        (near[:3] + far[:3], [[0, 1, 2], [3, 4, 5]]), (near[:2] + far[:3] + near[2:3], [[0, 1, 5]]),
+        (near[:2] + far + near[2:3], [[0, 1], [2, 3, 4, 5]]), ([*itertools.chain(*zip(near, 6 * far[:1]))], [[0, 2, 4, 6, 8, 10]]),
     ]:
         assert [way.points for way in village.match(trace).matchings] == wanted
 
 
+TRACE = [(0.0001, 0.0), (0.0005, 0.0)]
 REFUSED = {
     "two places or more": [{"trace": [(0, 0)]}], "-180": [{"trace": [(0, 0), (200, 0)]}], "gaps has to be": [{"gaps": "both"}],
     "above 0": [{"deviation": 0}, {"deviation": 201}], "don't fall": [{"seconds": [2, 1]}, {"seconds": [-math.inf, 1]}],
     "one for each place": [{name: some} for name, some in (
         ("deviation", [5]), ("deviation", np.array(5.0)), ("seconds", [1]), ("seconds", 5), ("bearings", [None]), ("bearings", 5))],
     "have to be numbers": [{"deviation": None}, *({"seconds": some} for some in (
-        [1, math.nan], np.array([0, 9], "M8[ns]"), np.array([0, 9], "m8[ns]"), [datetime.datetime(2024, 5, day) for day in (1, 2)]))],
+        [1, math.nan], *(np.array([0, 9], kind) for kind in ("M8[ns]", "m8[ns]")), [datetime.datetime(2024, 5, 1)] * 2))],
     "a bearing is": [{"bearings": [some, None]} for some in ((400, 1), 90, ("a", 1))],
 }
 
@@ -88,8 +85,8 @@ REFUSED = {
 def test_arguments_that_are_refused(village, says):
     for words in REFUSED[says]:
         with pytest.raises(ValueError, match=re.escape(says)):
-            village.match(**{"trace": street(0.0001, 0.0005), **words})
-    assert len(village.match(street(0.0001, 0.0005), [3, 3], deviation=[200, 200]).matchings) == 1
+            village.match(**{"trace": TRACE, **words})
+    assert len(village.match(TRACE, [3, 3], deviation=[200, 200]).matchings) == 1
 
 
 BESIDE = "lon,lat\n0.0003,0.0003\n0.0008,0.0003\n"
@@ -118,7 +115,8 @@ def test_places_that_decide(data):
     def some(*values):
         return data.draw(st.lists(st.sampled_from(values), min_size=count, max_size=count))
 
-    places = [(9.5 + 2.7e-5 * step, 0.0) for step in itertools.accumulate(some(0, 1, 1) if is_dense else some(0, 1, 2, 5, 9, 10, 11, 20))]
+    steps = some(0, 1, 1) if is_dense else some(0, 1, 2, 5, 9, 10, 11, 20)
+    places = [(9.5 + 2.7e-5 * step, 0.0) for step in itertools.accumulate(steps)]
     seconds = [*itertools.accumulate(some(0, 1, 4, 5, 6, 6, 60, 61, 100, 700))] if data.draw(st.integers(0, 3)) else []
     words, is_tidy, gaps = some("", "1.5", "5", "10"), data.draw(st.booleans()), data.draw(st.sampled_from(["split", "ignore"]))
     query = {"radiuses": ";".join(words), "timestamps": ";".join(map(str, seconds)), "gaps": gaps, "tidy": str(is_tidy).lower()}
@@ -132,34 +130,23 @@ def test_places_that_decide(data):
             assert matcher._thinned(part) == model_matching.thinned(request, part)
 
 
-@pytest.fixture(scope="module")
-def ladder(tmp_path_factory):
-    """Two streets of five blocks, 13 m apart, with rungs between, each of another weight and one of one way; and its hierarchy."""
-    steps = [*((node, node + 2) for node in range(10)), *((node, node + 1) for node in range(0, 12, 2))]
-    weights = [1200 * (7 * way % 11 + 2 + 8 * (way < 11)) for way in range(1, 17)]
-    roads = [Road(*step, weight, None if way == 12 else weight) for way, (step, weight) in enumerate(zip(steps, weights))]
-    places, prefix = [(0.001 * (node // 2), 0.00012 * (node % 2)) for node in range(12)], tmp_path_factory.mktemp("ladder") / "net"
-    with prepared(places, roads, prefix) as hierarchy:
-        yield model_of(prefix), hierarchy
-
-
 @drawn(250)
 @given(data=st.data())
-def test_ways_on_a_ladder(ladder, data):
+def test_ways_in_the_village(village, data):
     """The points of each way, their places, its weight and its confidence are the model's, by all ways through all states."""
-    roads, hierarchy = ladder
-    count, one_of = data.draw(st.sampled_from([2, 2, 3, 4, 4, 5, 6, 6])), lambda *values: data.draw(st.sampled_from(values))
+    roads = model_of(village.network.prefix)
+    count, one_of = data.draw(st.sampled_from([2, 3, 4, 4, 5, 6, 6])), lambda *values: data.draw(st.sampled_from(values))
     steps = [one_of(5, 7, 9, 12, -6) for _ in range(count - 1)]
     for at in data.draw(st.sets(st.integers(0, count - 2), max_size=(count - 2) // 2)):
         steps[at] = one_of(-0.3, -0.5, -0.8, -1.5)  # (fewer than half, so each place decides)
-    east = itertools.accumulate(steps, initial=one_of(-1, 0, 2, 9))
-    places = [(1e-4 * each, 1e-5 * (one_of(0, 0, 12) + data.draw(st.integers(-5, 5)))) for each in east]
-    words = [one_of("", "2", "3", *(("8", "20", "45", "45", "45") if count == 2 else ())) for _ in places]
-    bearings = [one_of("", "90,60", "270,160") for _ in places]
+    along = itertools.accumulate(steps, initial=one_of(-1, 2, 9, 15, 27))
+    places = [(1e-4 * each, 1e-5 * data.draw(st.integers(-10, 10))) for each in along]
+    words = [one_of("", "2", "3", *(("8", "20") if count == 2 else ())) for _ in places]
+    bearings = [one_of("", "", "90,60", "270,160") for _ in places]
     request = Request("match", places, {"radiuses": ";".join(words), "bearings": ";".join(bearings)})
     with contextlib.suppress(Ambiguous):
         wanted = model_matching.ways(roads, request)
-        found = hierarchy.match(places, deviation=model_matching.deviations(request), bearings=request.bearings()).matchings
+        found = village.match(places, deviation=model_matching.deviations(request), bearings=request.bearings()).matchings
         for way, options in zip(found, wanted, strict=True):
             assert any(is_way(way, option) for option in options)
 
@@ -167,9 +154,9 @@ def test_ways_on_a_ladder(ladder, data):
 @drawn(150)
 @given(st.data())
 def test_ways_between_states(data):
-    """Those from each state of a place to each of another one are as likely as the model's, on networks whose junctions are split too."""
-    made = data.draw(networks(most=5))
-    request = Request("match", data.draw(places(made.roads, 2)), {"radiuses": data.draw(st.sampled_from(["20;20", "90;200", "200;60"]))})
+    """Those from each state of a place to each of another one are as likely as the model's, also where junctions are split."""
+    made, radiuses = data.draw(networks(most=5)), data.draw(st.sampled_from(["20;20", "90;200", "200;60"]))
+    request = Request("match", data.draw(places(made.roads, 2)), {"radiuses": radiuses})
     with tempfile.TemporaryDirectory() as folder, contextlib.suppress(Ambiguous):
         wanted = [model_matching.states(made.roads, request, number) for number in (0, 1)]
         write_network(made, pathlib.Path(folder) / "net")
@@ -187,13 +174,6 @@ def test_ways_between_states(data):
         for (start, end), way in zip(itertools.product(*wanted), np.ravel(ways), strict=True):
             with contextlib.suppress(Ambiguous):
                 assert way == pytest.approx(-model_matching.surplus(made.roads, request, (0, 1), start, end), abs=2e-3)
-
-
-@pytest.mark.parametrize("east, count", [(0.0089, 1), (0.0091, 0)])
-def test_the_longest_way(tmp_path, east, count):
-    """From a street to the one beside it, which are joined in the east: one of some 2 km at most, but for the 33 m between both."""
-    with prepared([(0.0, 0.0), (0.0, 0.0003)], [Road(0, 1, 7, 7, ((east, 0.0), (east, 0.0003)))], tmp_path / "net") as hierarchy:
-        assert len(hierarchy.match([(0.0, 0.0), (0.0, 0.0003)]).matchings) == count
 
 
 def is_way(found, way):
@@ -217,7 +197,7 @@ def drawn_leg(draw, weights):
 
 
 def ways_to(lines, leg, place, reach):
-    """For each segment that is driven on a leg along these lines the square of the metres to a place, up to a reach, and the mark there."""
+    """For each segment that is driven of these lines the square of the metres to a place, up to a reach, and the mark there."""
     for number, line in enumerate(lines):
         first, last = leg.begin if number == 0 else 0.0, leg.end if number == len(lines) - 1 else 1.0
         for ends in itertools.pairwise(metres / along(line)[-1] for metres in along(line)):
@@ -252,21 +232,19 @@ def test_places_on_legs(data):
     reach = [draw(st.sampled_from([10.0, 1000.0])) for _ in places]
     for leg, some, marks in zip(legs, numbers, nearest_marks(roads, legs, numbers, np.array(places), np.array(reach)), strict=True):
         rows = [[*ways_to(lines, leg, places[number], reach[number])] for number in some]
-        every = [[row[at] for row, at in zip(rows, each)] for each in itertools.combinations_with_replacement(range(len(rows[0])), len(some))]
-        least = min(sum(cost for cost, _ in way) for way in every)
-        best = [[*itertools.accumulate((mark for _, mark in way), max)] for way in every if sum(cost for cost, _ in way) <= least + 0.1]
-        assert any(all(is_near_mark(lines, *pair) for pair in zip(marks, way)) for way in best), (marks, best)
+        orders = itertools.combinations_with_replacement(range(len(rows[0])), len(some))
+        ways = [[*zip(*(row[at] for row, at in zip(rows, order)))] for order in orders]
+        least = min(sum(costs) for costs, _ in ways)
+        best = [[*itertools.accumulate(found, max)] for costs, found in ways if sum(costs) <= least + 0.1]
+        places_of = [[[point_at(lines[arc], share) for arc, share in pair] for pair in zip(marks, way)] for way in best]
+        assert any(all(metres_between(*pair) < 0.5 for pair in pairs) for pairs in places_of), (marks, best)
         parts = parts_of(roads, leg, marks)
         assert len(parts) == len(marks) + 1 and marks == sorted(marks)
-        gone = [sum(leg.weights[:arc]) + round(share * weights[arc]) - (arc == 0) * round(leg.begin * weights[0]) for arc, share in marks]
+        before = [round(leg.begin * weights[0]), *[0] * len(weights)]
+        gone = [sum(leg.weights[:arc]) + round(share * weights[arc]) - before[arc] for arc, share in marks]
         assert [*itertools.accumulate(part.weight for part in parts)] == [*gone, leg.weight]
         for part in parts:
             assert part.weight == part.weights.sum() and (part.weights >= 0).all() and len(part.weights) == len(part.arcs)
         ends = [(part.arcs[0] + part.begin, part.arcs[-1] + part.end) for part in parts if len(part.arcs)]
         ends = [(leg.begin, leg.begin), *ends, (len(lines) - 1 + leg.end,) * 2]
         assert all(before[1] == pytest.approx(behind[0], abs=1e-9) for before, behind in itertools.pairwise(ends))
-
-
-def is_near_mark(lines, mark, other):
-    """Whether two marks on lines are one, but for half a metre."""
-    return metres_between(*(point_at(lines[arc], share) for arc, share in (mark, other))) < 0.5

@@ -179,7 +179,12 @@ def test_tables_by_parts(drawn, monkeypatch, cells, most_rows):
     (whole,) = leg_tables.weight_rows(drawn.hierarchy.matrix, roads, points, points, 1 << 20)
     monkeypatch.setattr(leg_tables, "MAX_ROWS", most_rows)
     asked = []
-    parts = [*leg_tables.weight_rows(lambda *sides: asked.append(sides) or drawn.hierarchy.matrix(*sides), roads, points, points, cells)]
+
+    def ask(*sides):
+        asked.append(sides)
+        return drawn.hierarchy.matrix(*sides)
+
+    parts = [*leg_tables.weight_rows(ask, roads, points, points, cells)]
     np.testing.assert_array_equal(np.concatenate(parts), whole)
     assert len(parts) == len(asked) > 1 and all(np.array_equal(targets, asked[0][1]) for _, targets in asked)
     assert max(map(len, parts)) == max(1, min(most_rows, cells // sum(len(point.entries) for point in points)))

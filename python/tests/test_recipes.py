@@ -50,7 +50,8 @@ def moved_village(folder):
 
 def commands(folder, **said):
     """The environment with commands: the tools as the package names them, routecli, and those that are given as lines of sh."""
-    said |= {f"domethyme-{name.replace('_', '-')}": f'exec {TOOLS}/{name} "$@"' for name in ("osm_to_gr", "reweigh", "to_network", "without")}
+    for name in ("osm_to_gr", "reweigh", "to_network", "without"):
+        said[f"domethyme-{name.replace('_', '-')}"] = f'exec {TOOLS}/{name} "$@"'
     said["routecli"] = f'exec {pathlib.Path(os.environ["ROUTECLI"]).resolve()} "$@"'
     (folder / "bin").mkdir()
     for name, lines in said.items():
@@ -87,8 +88,8 @@ def test_from_osrm(clone):
             assert ran.returncode == 0, ran.stderr
             printed = ran.stdout if block == pricing else json.loads(ran.stdout)["code"]
             assert printed.strip() == ("right" if block == pricing else "Ok")
-    typed = {line.partition(" ")[0] for line in f"{serving}{pricing}".splitlines()}
-    assert {"tools/osm_to_gr", "tools/domethyme-serve", "routecli", "curl"} == typed
+    words = {"tools/osm_to_gr", "tools/domethyme-serve", "routecli", "curl"}
+    assert {line.partition(" ")[0] for line in f"{serving}{pricing}".splitlines()} == words
 
 
 def test_own_data(clone, monkeypatch):
@@ -116,12 +117,6 @@ def test_python(clone, page, name):
     assert name != "folium" or "geojson" in made[0].read_text().lower() and made[1].stat().st_size > 10_000
 
 
-def ranks_in(path):
-    """The bytes of a hierarchy's ranks."""
-    data = path.read_bytes()
-    return data[24 : 24 + 4 * int.from_bytes(data[4:8], "big")]
-
-
 class RecipeTests(NginxCase):
     def here(self, text):
         """A text with the test's folder before the folders of the machine that it writes to, and reads units from."""
@@ -131,8 +126,7 @@ class RecipeTests(NginxCase):
         """What the package installs, below the folder."""
         for name in ("etc/default", "etc/systemd/system", "lib/systemd/system", "var/lib/domethyme"):
             (self.folder / name).mkdir(parents=True)
-        default = (ROOT / "packaging/domethyme-serve.default").read_text(encoding="utf-8")
-        (self.folder / "etc/default/domethyme-serve").write_text(default, encoding="utf-8")
+        shutil.copy(ROOT / "packaging/domethyme-serve.default", self.folder / "etc/default/domethyme-serve")
         for unit in ("domethyme-serve.service", "domethyme-serve.socket"):
             shutil.copy(ROOT / "packaging" / unit, self.folder / "lib/systemd/system")
 
@@ -140,7 +134,8 @@ class RecipeTests(NginxCase):
         self.machine()
         write_map(self.folder / "country.osm.pbf", VILLAGE)
         (block,) = blocks(PAGE, "domethyme-osm-to-gr --profile bicycle")
-        self.run_program(["sh", "-euc", self.here(block)], environment=commands(self.folder, systemctl=f"echo $* >> {self.folder}/asked"))
+        environment = commands(self.folder, systemctl=f"echo $* >> {self.folder}/asked")
+        self.run_program(["sh", "-euc", self.here(block)], environment=environment)
         self.assertEqual((self.folder / "asked").read_text(), "enable --now domethyme-bicycle\n")
 
         default = (self.folder / "etc/default/domethyme-bicycle").read_text()
@@ -239,7 +234,8 @@ class RecipeTests(NginxCase):
         self.run_program(["sh", "-euc", self.here(hour)], environment=environment)
         self.assertEqual(asked.read_text(), "daemon-reload\n" + 2 * "reload domethyme-serve\n")
         domethyme.check(served / "network.gr", served / "network.rch", find_program())
-        self.assertEqual(ranks_in(served / "network.rch"), ranks_in(served / "map.rch"))
+        made = [(served / f"{name}.rch").read_bytes() for name in ("network", "map")]
+        self.assertEqual(*(data[24 : 24 + 4 * int.from_bytes(data[4:8], "big")] for data in made))  # (the ranks)
         self.assertLess(len(read_graph(served / "network.gr").weights), len(read_graph(served / "map.gr").weights))
         process.send_signal(signal.SIGHUP)
         self.wait_for(lambda: self.value("reloads_total") == 1)

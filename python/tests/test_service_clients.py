@@ -102,7 +102,8 @@ class EightClientsTests(OsrmCase):
             at = next(number for number in range(at, len(line)) if math.dist(line[number], place) < 1.1e-5)
         self.assertEqual((at, len(line) > 5), (len(line) - 1, True))
         for before, more, first in (("", "", 0), ("7.0E-3,0.0;", "", 1), ("7.0E-3,0.0;", "&continue_straight=true", 1)):
-            status, found = self.ask(f"/route/v1/driving/{before}3.0E-4,1.0E-5;0.020,0.005?overview=full&steps=true{more}", headers=OSMAND)
+            path = f"/route/v1/driving/{before}3.0E-4,1.0E-5;0.020,0.005?overview=full&steps=true{more}"
+            status, found = self.ask(path, headers=OSMAND)
             message = f"there is no route from place {first} to place {first + 1}"
             self.assertEqual((status, found), (400, {"code": "NoRoute", "message": message}))
 

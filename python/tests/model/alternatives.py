@@ -4,8 +4,7 @@ from collections.abc import Iterator, Sequence
 
 from .network import Ambiguous, Network, Part, SnappedPoint
 
-# Of the least weight: how much another way weighs at most, its plateau at least, and what it has in common with each other. And how
-# many there are at most.
+# Of the least weight: what another way weighs at most, its plateau at least, and what it shares at most. How many there are at most.
 STRETCH, LEAST_PLATEAU, MOST_SHARED, MOST = 1.25, 0.2, 0.75, 3
 
 
