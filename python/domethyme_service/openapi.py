@@ -69,7 +69,7 @@ SCHEMAS: dict[str, Schema] = {
     "Trips": record({"waypoints": WAYPOINTS}, code=word("Ok"), trips=array(ref("Route"))),
     "Tracepoint": {**record({"hint": TEXT}, **POINT, matchings_index=INTEGER, waypoint_index={**INTEGER, "nullable": True}), "nullable": True},
     "Matchings": record({"tracepoints": array(ref("Tracepoint"))}, code=word("Ok"), matchings=array(ref("Route"))),
-    "Nearest": record(code=word("Ok"), waypoints=WAYPOINTS),
+    "Nearest": record({"waypoints": WAYPOINTS}, code=word("Ok")),
     "Table": record(
         {"durations": ROWS, "distances": ROWS, "weights": ROWS, "fallback_speed_cells": array(NODES), "sources": WAYPOINTS,
          "destinations": WAYPOINTS}, code=word("Ok")

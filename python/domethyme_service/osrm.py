@@ -2,6 +2,7 @@
 `weight`, between the points of roads that are nearest to the places, as the library proves."""
 import binascii
 import itertools
+import math
 from collections.abc import Iterable, Iterator, Sequence
 from typing import NamedTuple
 
@@ -51,7 +52,8 @@ def nearest(engine: Engine, request: Request) -> str:
     arcs = [next(iter(roads.edge(snapped.edge).arcs.values())) for snapped in points]
     ids = roads.osm_ids(np.array([[arc.start, arc.end] for arc in arcs])).tolist()
     found = (waypoint_json(request, snapped, f',"nodes":[{start},{end}]') for snapped, (start, end) in zip(points, ids))
-    return f'{{"code":"Ok","waypoints":{join_array(found)}}}'
+    is_shown = request.values[SKIP_WAYPOINTS] != "true"
+    return join_object({"code": '"Ok"', **({"waypoints": join_array(found)} if is_shown else {})})
 
 
 def snap_candidates(engine: Engine, request: Request, number: int, count: int) -> list[SnappedPoint]:
@@ -110,10 +112,11 @@ def no_segment_error(roads: RoadIndex, request: Request, number: int) -> Request
         return west - NEAR_DEGREES <= x <= east + NEAR_DEGREES and south - NEAR_DEGREES <= y <= north + NEAR_DEGREES
 
     hint = "; is it LAT,LON?" if is_near(lat, lon) and not is_near(lon, lat) else ""
-    within_what = " of that bearing" if request.values[BEARINGS][number] else ""
+    what = "road of that bearing" if request.values[BEARINGS][number] else "road"
+    where = f"within {radius:g} m of" if math.isfinite(radius) else "for"
     return RequestError(
         400, "NoSegment",
-        f"there is no road{within_what} within {radius:g} m of place {number}, {lon:g},{lat:g} (LON,LAT{hint}). "
+        f"there is no {what} {where} place {number}, {lon:g},{lat:g} (LON,LAT{hint}). "
         f"The roads are from {west:.4f},{south:.4f} to {east:.4f},{north:.4f}. No segment for coordinate {number}",
     )
 

@@ -21,9 +21,8 @@ POLYLINE = re.compile(r"polyline(6?)\((.*)\)", re.DOTALL)
 
 
 class Request(NamedTuple):
-    """A request: the service, the places (lon, lat) in degrees, and the values of the parameters."""
+    """A request: the places (lon, lat) in degrees, and the values of the parameters."""
 
-    service: str
     places: list[Point]
     values: Values
 
@@ -34,8 +33,7 @@ def parse_request(
     """The request of a path `/SERVICE/v1/PROFILE/PLACES`, percent-encoded, where an isochrone's PROFILE may have two
     words, with the metres to a road of a place without a radius. The last word is one of `profiles`, if there are any. Raises
     RequestError."""
-    service = endpoint.name[1:]
-    is_isochrone = service == "isochrone"
+    is_isochrone = endpoint.name == "/isochrone"
     words = path.split("/", -1 if is_isochrone else 4)
     form = "/isochrone/v1/PROFILE/PLACE" if is_isochrone else "/SERVICE/v1/PROFILE/PLACES"
     if words[2] != "v1":
@@ -46,7 +44,7 @@ def parse_request(
     if profiles and words[-2] not in profiles:
         raise invalid_value(f"PROFILE has to be one of {', '.join(profiles)}")
     places = parse_coordinates(words[-1], endpoint.places)
-    return Request(service, places, endpoint.values(query, Context(len(places), default_radius)))
+    return Request(places, endpoint.values(query, Context(len(places), default_radius)))
 
 
 def parse_coordinates(text: str, counts: range) -> list[Point]:
@@ -55,8 +53,10 @@ def parse_coordinates(text: str, counts: range) -> list[Point]:
         decoded = urllib.parse.unquote(text, errors="strict").removesuffix(".json")
         if found := POLYLINE.fullmatch(decoded):
             places = decode_polyline(found[2], 6 if found[1] else 5)
+            count = len(places)
         else:
-            places = [parse_coordinate(word) for word in decoded.split(";", counts.stop)[: counts.stop]]
+            words = decoded.split(";")
+            places, count = [parse_coordinate(word) for word in words[: counts.stop]], len(words)
     except ValueError:
         raise invalid_query("places are LON,LAT;LON,LAT;.. or polyline(..)") from None
     for number, (lon, lat) in enumerate(places):
@@ -64,11 +64,11 @@ def parse_coordinates(text: str, counts: range) -> list[Point]:
             hint = "; is it LAT,LON?" if abs(lon) <= 90 and abs(lat) <= 180 else ""
             order = "longitude first, from -180 to 180, then latitude, from -90 to 90"
             raise invalid_value(f"place {number} is {lon:g},{lat:g}: {order}{hint}")
-    if len(counts) > 1 and len(places) >= counts.stop:
+    if len(counts) > 1 and count >= counts.stop:
         raise too_big(f"there may be {counts.stop - 1} places")
-    if len(places) not in counts:
+    if count not in counts:
         wanted = f"{'two places' if counts.start == 2 else 'one place'}{' or more' if len(counts) > 1 else ''}"
-        raise invalid_query(f"the path has to have {wanted}, and has {len(places)}")
+        raise invalid_query(f"the path has to have {wanted}, and has {count}")
     return places
 
 

@@ -5,7 +5,6 @@ import pytest
 from reach_case import Road, prepared
 from service_case import ServiceCase
 from test_generated_service import ask, open_service
-from tool_case import TOOLS
 
 HIGH = "0.0003,0.00001;0.0077,-0.00002"
 
@@ -42,16 +41,22 @@ def test_a_trace_with_a_gap(tmp_path, gaps, ways, stops):
     ("route/v1/car/9.5,47;9.5,47?bearings=90,9;0,9&radiuses=;50.5",
      "{road} of that bearing within 50.5 m of place 1, 9.5,47 (LON,LAT). {box} 1"),
     ("route/v1/car/9.5,47;9.5,47.1?radiuses=;0&bearings=90,9;", "{road} within 0 m of place 1, 9.5,47.1 (LON,LAT). {box} 1"),
+    ("table/v1/car/9.5,47;9.5,47?bearings=;0,9&radiuses=;unlimited", "{road} of that bearing for place 1, 9.5,47 (LON,LAT). {box} 1"),
+    ("route/v1/car/9.5,47;9.501,47;9.502,47;9.5,47?continue_straight=true", "there is no route from place 1 to place 2"),
+    ("route/v1/car/9.5,47;9.501,47;9.502,47;9.5,47", "there is no route from place 1 to place 2"),
     ("route/v1/car/9.5,47;200,10", "place 1 is 200,10: {first}"),
     ("route/v1/car/10,100;9.5,47", "place 0 is 10,100: {first}; is it LAT,LON?"),
+    ("nearest/v1/car/9.5,47;1,2;3,4", "the path has to have one place, and has 3"),
+    ("match/v1/car/9.5,47", "the path has to have two places or more, and has 1"),
     ("match/v1/car/9.5,47;9.5,49;9.501,47?waypoints=0;1;2", "place 1 is one of waypoints, and has no match"),
     ("route/v1/car/9.5,47;9.501,47?exclude=toll,ferry", "exclude=ferry,toll isn't answered: it was started without --exclude"),
 ])
 def test_what_messages_say(tmp_path, path, says):
     """Which place is meant, whether its numbers may be the wrong way round, and at the end its own number, as VROOM reads it."""
-    prepared([(9.5, 47.0), (9.501, 47.0)], [Road(0, 1, 1000, 1000)], tmp_path / "net").close()
+    places = [(9.5, 47.0), (9.501, 47.0), (9.502, 47.0), (9.503, 47.0)]
+    prepared(places, [Road(0, 1, 1000, 1000), Road(2, 3, 1000, 1000)], tmp_path / "net").close()
     message = ask(open_service(tmp_path / "net"), f"/{path}")[1]["message"]
-    box = "The roads are from 9.5000,47.0000 to 9.5010,47.0000. No segment for coordinate"
+    box = "The roads are from 9.5000,47.0000 to 9.5030,47.0000. No segment for coordinate"
     first = "longitude first, from -180 to 180, then latitude, from -90 to 90"
     assert message == says.format(road="there is no road", box=box, first=first)
 
@@ -60,43 +65,24 @@ class RequestTests(OsrmCase):
     def test_a_million_cells(self):
         places = [f"{0.00001 * number:.5f},0.00001" for number in range(1000)]
         found = self.good(f"/table/v1/car/{';'.join(places)}?skip_waypoints=true")["durations"]
-        self.assertEqual({len(row) for row in found}, {1000})
         some = self.good(f"/table/v1/car/{';'.join(places[::100])}")["durations"]
-        self.assertEqual([row[::100] for row in found[::100]], some)
+        self.assertEqual(({len(row) for row in found}, [row[::100] for row in found[::100]]), ({1000}, some))
 
-    def test_budgets_of_cells(self):
-        self.serve("--network", self.folder / "v", "--table-cells", "5")
+    def test_options(self):
+        """Cells of a table, metres to a road, and the words that PROFILE may be; without --profile any will do."""
+        self.serve("--network", self.folder / "v", "--table-cells", "5", "--radius", "70", "--profile", "car", "--profile", "driving")
+        self.assertIn("no road within 70 m of place 0", self.ask("/nearest/v1/car/0.0005,-0.0007")[1]["message"])
         self.good(f"/table/v1/car/{HIGH};0.001,0;0.002,0;0.003,0?destinations=1")
-        status, found = self.ask(f"/table/v1/car/{HIGH};0.001,0")
-        self.assertEqual((status, found["code"]), (400, "TooBig"))
-        self.assertIn("5 cells (--max-table-cells)", found["message"])
-        self.assertEqual(self.ask(f"/table/v1/car/{HIGH}?sources=0;1;1&destinations=0;0")[1]["code"], "TooBig")
-
-    def test_profiles_that_are_allowed(self):
-        """Any word, or those of --profile alone."""
-        self.serve("--network", self.folder / "v", "--profile", "car", "--profile", "driving")
+        for query in (";0.001,0", "?sources=0;1;1&destinations=0;0"):
+            status, found = self.ask(f"/table/v1/car/{HIGH}{query}")
+            self.assertEqual((status, found["code"]), (400, "TooBig"))
+            self.assertIn("5 cells (--max-table-cells)", found["message"])
         for service, places in (("route", HIGH), ("table", HIGH), ("nearest", "0,0"), ("isochrone", "0,0")):
             query = "?contours_minutes=1" if service == "isochrone" else ""
             for word, status in (("car", 200), ("mapbox/driving" if query else "driving", 200), ("bike", 400)):
                 found = self.ask(f"/{service}/v1/{word}/{places}{query}")
                 self.assertEqual(found[0], status, found)
         self.assertEqual(found[1], {"code": "InvalidValue", "message": "PROFILE has to be one of car, driving"})
-
-    def test_messages(self):
-        """Errors name the place, the extent of the roads, and that longitudes come first."""
-        for path, says in (
-            ("/route/v1/car/0,0;0.5,0.5", ("The roads are from -0.0055,-0.0010 to ", "within 5000 m")),
-            (f"/route/v1/car/{HIGH};0.020,0.005", ("no route from place 1 to place 2",)),
-            (f"/route/v1/car/{HIGH};0.020,0.005?continue_straight=true", ("no route from place 1 to place 2",)),
-        ):
-            message = self.ask(path)[1]["message"]
-            for text in says:
-                self.assertIn(text, message)
-        words = [TOOLS / "domethyme-serve", self.folder / "v.rch", "--port", self.port]
-        said = self.run_program(words, status=1).stderr
-        self.assertIn(f"can't listen at 127.0.0.1, port {self.port}: Address already in use", said)
-        said = self.run_program([*words[:-1], "0", "--network", self.folder / "none"], status=1).stderr
-        self.assertIn(f"{self.folder}/none", said)
 
     def test_log_without_places(self):
         """A line for each request, without places and addresses unless --log-places."""
@@ -106,15 +92,11 @@ class RequestTests(OsrmCase):
                 self.good(f"/route/v1/car/{HIGH}")
                 self.good(f"/nearest/v1/car/{HIGH.partition(';')[0]}")
                 wanted = [] if are_named is None else ["/route", "/nearest"]
-                lines = self.logged(len(wanted))
-                self.assertEqual([line["endpoint"] for line in lines], wanted)
+                self.wait_for(lambda: len(self.logged()) >= len(wanted))
+                self.assertEqual([line["endpoint"] for line in self.logged()], wanted)
                 said = json.dumps(self.said)
                 self.assertEqual(["0.0003" in said, "127.0.0.1" in said.replace(f"http://127.0.0.1:{self.port}", "")], [bool(are_named)] * 2)
 
-    def logged(self, count):
-        """The lines of the access log, once there are this many."""
-        def lines():
-            return [json.loads(line) for line in self.said if line.startswith("{")]
-
-        self.wait_for(lambda: len(lines()) >= count)
-        return lines()
+    def logged(self):
+        """The lines of the access log."""
+        return [json.loads(line) for line in self.said if line.startswith("{")]
