@@ -19,6 +19,9 @@ class Request(NamedTuple):
     def value(self, name: str, default: str = "") -> str:
         return self.query.get(name, default)
 
+    def has(self, name: str) -> bool:
+        return self.value(name) == "true"
+
     def words(self, name: str) -> list[str]:
         """A word for each place, "" for none."""
         return self.value(name).split(";") if self.value(name) else [""] * len(self.places)
@@ -33,24 +36,19 @@ class Request(NamedTuple):
         pairs = [word.partition(",") for word in self.words("bearings")]
         return [(int(degrees), int(deviation)) if comma else None for degrees, comma, deviation in pairs]
 
-    def approaches(self) -> list[bool]:
+    def curbs(self) -> list[bool]:
         """Whether each place has to be at the side of the road on which vehicles are."""
         return [word == "curb" for word in self.words("approaches")]
 
-    def is_any(self) -> bool:
-        """Whether places may be on ferries too."""
-        return self.value("snapping") == "any"
-
     def annotations(self) -> list[str]:
         text = self.value("annotations", "false")
-        return [] if text == "false" else [*ANNOTATIONS] if text == "true" else text.split(",")
+        return {"false": [], "true": [*ANNOTATIONS]}.get(text, text.split(","))
+
+    def numbers(self, name: str) -> list[int]:
+        """The numbers of places that a parameter lists; all without it."""
+        text = self.value(name, "all")
+        return [int(word) for word in text.split(";")] if text not in ("", "all") else [*range(len(self.places))]
 
     def stops(self) -> list[int]:
         """The numbers of the places at which legs begin or end."""
-        text = self.value("waypoints")
-        return sorted(set(map(int, text.split(";")))) if text else list(range(len(self.places)))
-
-    def indices(self, name: str) -> list[int]:
-        """The numbers of the places that are sources, or destinations."""
-        text = self.value(name, "all")
-        return list(range(len(self.places))) if text == "all" else [int(word) for word in text.split(";")]
+        return sorted({*self.numbers("waypoints")})
