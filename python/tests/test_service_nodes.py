@@ -8,12 +8,13 @@ import socket
 import subprocess
 import sys
 import time
-
 from unittest import mock
 
 import gunicorn
 import pytest
+from draws import one_road
 from service_case import ServiceCase
+from test_generated_service import ask, serve
 from tool_case import PYTHON, ROOT, SECONDS, TOOLS
 
 from domethyme import find_program
@@ -24,61 +25,63 @@ from domethyme_service.errors import StartupError
 from domethyme_service.wsgi import Options
 
 
-class NodesTests(ServiceCase):
-    def test_faults_in_lines_of_a_batch(self):
-        self.serve()
-        line = '{"from": 1, "to": 1'
-        lines = ['{"from": 1, "to": 1}', "", "[1, 2]", '{"from": 1}', '{"from": true, "to": 1}', '{"from": 1.5, "to": 1}',
-                 '{"from": 1, "to": 1, "x": "' + "x" * 300 + '"}', "[" * 200, '{"from": "1", "to": 1}',
-                 '{"from": 1, "from": 2, "to": 3}', '{"from_key": "a", "to_key": "b"}', *(line.ljust(count) + "}" for count in (255, 256))]
-        status, text = self.ask("/nodes/lengths", "POST", "\n".join(lines))
-        found = [json.loads(line) for line in text.splitlines()]
-        self.assertEqual((status, [each.get("line") for each in found]), (200, [None, 2, 3, 4, 5, 6, 7, 8, None, 10, 11, None, 13]))
-        self.assertEqual(found[9]["message"], "a name is there twice")
-        self.assertEqual(self.ask("/nodes/lengths", "POST", ""), (200, ""))
-        # (lines that are parsed at once where all of them are right)
-        none = "has to be a node from 1 to 38"
-        for wrong, says in ((line.ljust(256) + "}", "a line has at most 256 bytes"), ('{"from": 39, "to": 1}', f"from {none}"),
-                            ('{"from": 1, "to": 39}', f"to {none}"), ('{"from": 1, "to": 0}', f"to {none}")):
-            text = self.ask("/nodes/lengths", "POST", f'{{"from": 38, "to": 38}}\n{wrong}\n{{"from": 1, "to": 1}}')[1]
-            self.assertEqual([each.get("message", each.get("to")) for each in map(json.loads, text.splitlines())], [38, says, 1])
+@pytest.fixture(scope="module")
+def told(tmp_path_factory):
+    """What a service of two nodes tells of each line of a batch of lengths."""
+    service = serve(one_road((0.0, 0.0), (0.001, 0.0)), tmp_path_factory.mktemp("road"))
+    return lambda *lines: ask(service, "/nodes/lengths", "\n".join(lines))[1]
 
+
+def test_faults_in_lines_of_a_batch(told):
+    line, none = '{"from": 1, "to": 1', "has to be a node from 1 to 2"
+    found = told(
+        '{"from": 1, "to": 1}', "", "[1, 2]", '{"from": 1}', '{"from": true, "to": 1}', '{"from": 1.5, "to": 1}',
+        '{"from": 1, "to": 1, "x": "' + "x" * 300 + '"}', "[" * 200, '{"from": "1", "to": 1}', '{"from": 1, "from": 2, "to": 3}',
+        '{"from_key": "a", "to_key": "b"}', *(line.ljust(count) + "}" for count in (255, 256))
+    )
+    assert [each.get("line") for each in found] == [None, 2, 3, 4, 5, 6, 7, 8, None, 10, 11, None, 13]
+    assert found[9]["message"] == "a name is there twice"
+    # (lines that are parsed at once where all of them are right)
+    for wrong, says in ((line.ljust(256) + "}", "a line has at most 256 bytes"), ('{"from": 3, "to": 1}', f"from {none}"),
+                        ('{"from": 1, "to": 3}', f"to {none}"), ('{"from": 1, "to": 0}', f"to {none}")):
+        found = told('{"from": 2, "to": 2}', wrong, '{"from": 1, "to": 1}')
+        assert [each.get("message", each.get("to")) for each in found] == [2, says, 1]
+
+
+def test_too_many_faults_in_a_batch(told):
+    """The answer ends with the first error beyond the limit, after the lines before it."""
+    found = told(*["x"] * 300, '{"from": 1, "to": 2}', *["x"] * 4000)
+    assert (len(found), found[300]["from"], found[-1]["line"], found[-1]["code"]) == (1002, 1, 1002, "TooBig")
+    assert "more than 1000 lines have an error: this line and all behind it aren't answered" in found[-1]["message"]
+    assert len(told(*["x"] * 1000, *['{"from": 1, "to": 2}'] * 50)) == 1050
+
+
+def test_lines_that_look_good_together(told):
+    """Lines that are invalid one by one, and would be pairs if they were parsed as one text."""
+    lines = ['{"from": [', '2], "from": 1, "to": 2}', '{"from": 1, "to": 2},0,{"from": 1, "to": 2}', '{"from": 1,', '"to": 2}',
+             '{"from": "1', '2", "to": 1}', '1,0,2', '{"from": 01, "to": 1}', '{"from": 1, "to": NaN}', '{"from": 1, "to": 1}, 3']
+    for some in (lines, *([line, *[lines[2]] * 2] for line in lines), *map(list, zip(lines, lines[1:]))):
+        assert [each["line"] for each in told(*some)] == [*range(1, len(some) + 1)]
+    found = told('{ "to":2,"from" : 1 }\r', '  {"from": "1", "to": 2}', " ")
+    assert [each.get("from", each.get("line")) for each in found] == [1, 1]
+
+
+class NodesTests(ServiceCase):
     def test_a_batch_of_one_block_is_sent_whole(self):
         """With its length, so a client, and nginx, knows where it ends."""
         self.serve()
         line = '{"from": 1, "to": 2}'
         most = "\n".ljust((4 << 20) - len(line))
-        for count, end in ((1, ""), (256, ""), (256, "\n"), (257, ""), (257, "\n"), (1, most)):
+        for count, end in ((0, ""), (1, ""), (256, ""), (256, "\n"), (257, ""), (257, "\n"), (1, most)):
             status, text = self.ask("/nodes/lengths", "POST", "\n".join([line] * count) + end)
             is_whole = "Content-Length" in self.headers
             self.assertEqual((status, text.count("\n"), is_whole), (200, count, count <= 256), (count, len(end)))
         self.assertEqual(self.ask("/nodes/lengths", "POST", line + most + " ")[0], 413)
 
-    def test_too_many_faults_in_a_batch(self):
-        """The answer ends with the first error beyond the limit, after the lines before it."""
-        self.serve()
-        lines = ["x"] * 300 + ['{"from": 1, "to": 2}'] + ["x"] * 4000
-        status, text = self.ask("/nodes/lengths", "POST", "\n".join(lines))
-        found = [json.loads(line) for line in text.splitlines()]
-        self.assertEqual((status, len(found), found[300]["from"], found[-1]["line"], found[-1]["code"]), (200, 1002, 1, 1002, "TooBig"))
-        self.assertIn("more than 1000 lines have an error: this line and all behind it aren't answered", found[-1]["message"])
-        good = ["x"] * 1000 + ['{"from": 1, "to": 2}'] * 50
-        self.assertEqual(self.ask("/nodes/lengths", "POST", "\n".join(good))[1].count("\n"), 1050)
-
-    def test_lines_that_look_good_together(self):
-        """Lines that are invalid one by one, and would be pairs if they were parsed as one text."""
-        self.serve()
-        lines = ['{"from": [', '2], "from": 1, "to": 2}', '{"from": 1, "to": 2},0,{"from": 1, "to": 2}', '{"from": 1,', '"to": 2}',
-                 '{"from": "1', '2", "to": 1}', '1,0,2', '{"from": 01, "to": 1}', '{"from": 1, "to": NaN}', '{"from": 1, "to": 1}, 3']
-        for some in (lines, *([line, *[lines[2]] * 2] for line in lines), *map(list, zip(lines, lines[1:]))):
-            status, text = self.ask("/nodes/lengths", "POST", "\n".join(some))
-            self.assertEqual((status, [json.loads(line)["line"] for line in text.splitlines()]), (200, [*range(1, len(some) + 1)]))
-        status, text = self.ask("/nodes/lengths", "POST", '{ "to":2,"from" : 1 }\r\n  {"from": "1", "to": 2}\n ')
-        self.assertEqual([line.get("from", line.get("line")) for line in map(json.loads, text.splitlines())], [1, 1])
-
     def test_health_metrics_and_log(self):
         self.serve("--access-log")
-        wanted = {"status": "ok", "nodes": self.graph.nodes, "links": self.links(), "towards": False, "alternatives": 0}
+        links = int.from_bytes((self.folder / "v.rch").read_bytes()[8:16], "big")
+        wanted = {"status": "ok", "nodes": self.graph.nodes, "links": links, "towards": False, "alternatives": 0}
         self.assertEqual(self.ask("/health"), (200, wanted))
         self.ask("/nodes/length?from=1&to=2")
         size = int(self.headers["Content-Length"])
@@ -88,28 +91,23 @@ class NodesTests(ServiceCase):
         self.assertEqual(self.headers["Content-Type"], "text/plain; version=0.0.4; charset=utf-8")
         self.ask("/nodes/length?from=1&to=0")
         text = self.ask("/metrics")[1]
-        names = set(re.findall(r"(?m)^# TYPE (\S+) ", text))
-        self.assertEqual(set(re.findall(r"(?m)^# HELP (\S+) \S", text)), names)
-        self.assertGreater(len(names), 10)
+        names = [set(re.findall(rf"(?m)^# {word} (\S+) \S", text)) for word in ("TYPE", "HELP")]
+        self.assertEqual((names[0], len(names[0]) > 10), (names[1], True))
         told = re.findall(r'(?m)^domethyme_request_seconds_(?:bucket|count){endpoint="/nodes/length".*} (\d+)$', text)
         # (each bucket has those of the ones before it, and the last has all)
         self.assertEqual((len(told), told, told[-2:]), (16, sorted(told, key=int), told[-1:] * 2))
-        for name, least in (("resident_memory_bytes", 1 << 20), ("last_reload_timestamp_seconds", time.time() - 1000), ("workers", 4), ("fronts", 4)):
-            self.assertGreaterEqual(self.value(name), least)
+        least = {"resident_memory_bytes": 1 << 20, "last_reload_timestamp_seconds": time.time() - 1000, "workers": 4, "fronts": 4}
+        self.assertEqual([name for name, each in least.items() if self.value(name) < each], [])
         version = re.search(r'(?m)^version = "(.*)"', (ROOT / "python/pyproject.toml").read_text())[1]
         versions = f'version="{version}",python="{platform.python_version()}",gunicorn="{gunicorn.__version__}"'
         self.assertIn(f"\ndomethyme_build_info{{{versions}}} 1\n", text)
         self.wait_for(lambda: sum('"/nodes/length"' in line for line in self.said) == 2)
         good, refused = (json.loads(line) for line in self.said if '"/nodes/length"' in line)
-        self.assertEqual(set(good), {"time", "method", "endpoint", "status", "bytes", "milliseconds"})
-        self.assertEqual(good["bytes"], size)
+        self.assertEqual(({*good}, good["bytes"]), ({"time", "method", "endpoint", "status", "bytes", "milliseconds"}, size))
         self.assertIn(f"at http://127.0.0.1:{self.port}/, {self.graph.nodes} nodes\n", "".join(self.said))
         self.assertEqual((set(refused) - set(good), refused["error"], refused["status"]), ({"error"}, "InvalidValue", 400))
         self.assertLess(abs(datetime.datetime.fromisoformat(good["time"]).timestamp() - time.time()), 1000)
         self.assertRegex(good["time"], r"^[0-9-]{10}T[0-9:]{8}\.[0-9]{3}Z$")
-
-    def links(self):
-        return int.from_bytes((self.folder / "v.rch").read_bytes()[8:16], "big")
 
 
 class CommandTests(ServiceCase):
@@ -136,20 +134,17 @@ class CommandTests(ServiceCase):
         self.assertIn("won't listen at 0.0.0.0: other machines ask through nginx", ended.stderr)
 
     def test_what_can_not_start(self):
+        self.assertIn(f"{self.folder}/net", self.refused("--network", self.folder / "net"))
         self.write("v.rch", "no hierarchy")
-        words = [TOOLS / "domethyme-serve", self.folder / "v.rch", "--port", "0"]
-        self.assertIn(f"{self.folder}/v.rch: is no file that `routecli prepare` wrote", self.run_program(words, status=1).stderr)
-        words[1] = self.folder / "none"
-        self.assertIn("none: No such file", self.run_program(words, status=1).stderr)
-        self.run_program([*words, "--workers", "0"], status=2)
-        words[:1] = [sys.executable, "-m", "domethyme_service"]
+        self.assertIn(f"{self.folder}/v.rch: is no file that `routecli prepare` wrote", self.refused())
+        words = [sys.executable, "-m", "domethyme_service", self.folder / "none", "--port", "0"]
         said = self.run_program(words, status=1, environment={"PYTHONPATH": str(PYTHON)}).stderr
         self.assertEqual(said, f"domethyme-serve: {self.folder}/none: No such file or directory\n")
 
 
 # (some by their old names)
-WORDS = "--network net --checked g.gr --towards --exclude toll=a=b.rch --exclude ferry=c.rch --within 6 --default-radius 7 "
-WORDS += "--fronts 5 --table-cells 9 --profile car --profile van --allowed-host A.org --allowed-host b --cors a://b:80 --log-places"
+WORDS = "--network net --checked g.gr --towards --exclude toll=a=b.rch --exclude ferry=c.rch --within 6 --default-radius 7 --fronts 5 "
+WORDS += "--table-cells 9 --tables fast --profile car --profile van --allowed-host A.org --allowed-host b --cors a://b:80 --log-places"
 EXCLUDED = {frozenset({"toll"}): "a=b.rch", frozenset({"ferry"}): "c.rch"}
 RENAMED = ["checked is now --verify", "within is now --radius", "default-radius is now --radius", "fronts is now --workers",
            "table-cells is now --max-table-cells"]
@@ -161,7 +156,8 @@ RENAMED = ["checked is now --verify", "within is now --radius", "default-radius 
      ["domethyme-serve: --workers 2: takes 4, the least, since a long request holds one"]),
     (WORDS, DatasetPaths("a.rch", "net", "g.gr", find_program(), False, True, EXCLUDED),
      Options(AccessPolicy(frozenset({"a.org", "b"}), "a://b:80"), 7, 9, ["car", "van"]), (5, True, True),
-     [f"domethyme-serve: --{each}; the old word goes with the next version" for each in RENAMED]),
+     ["domethyme-serve: --tables goes with the next version: leave it out, since all tables are proved",
+      *(f"domethyme-serve: --{each}; the old word goes with the next version" for each in RENAMED)]),
 ], ids=["one", "others"])
 def test_what_the_options_start(words, paths, options, more, says, capsys):
     with mock.patch.multiple(command, Application=mock.DEFAULT, open_sockets=mock.DEFAULT) as patched:

@@ -33,8 +33,3 @@ class TableTests(ServiceCase):
             before = self.value("queries_total")
             self.assertEqual(self.ask(f"/table/v1/car/{words}{more}")[0], 200)
             self.assertEqual(self.value("queries_total") - before, queries, more)
-
-    def test_the_old_option(self):
-        self.serve("--network", self.folder / "v", "--tables", "fast")
-        says = "domethyme-serve: --tables goes with the next version: leave it out, since all tables are proved\n"
-        self.assertIn(says, self.said)
