@@ -150,7 +150,7 @@ def unwrapped(line: Iterable[Point]) -> list[Point]:
 
 
 def decoded(found: Any, form: str) -> list[Point] | None:
-    """The points of a line in JSON; None for what is no such line."""
+    """The points of a line in JSON, two or more; None for what is no such line."""
     if form == "geojson":
         is_line = isinstance(found, dict) and set(found) == {"type", "coordinates"} and found["type"] == "LineString"
         return [(lon, lat) for lon, lat in found["coordinates"]] if is_line and len(found["coordinates"]) > 1 else None
@@ -165,7 +165,8 @@ def decoded(found: Any, form: str) -> list[Point] | None:
             value = shift = 0
     scale = 10 ** (6 if form == "polyline6" else 5)
     lats, lons = itertools.accumulate(numbers[::2]), itertools.accumulate(numbers[1::2])
-    return [(lon / scale, lat / scale) for lat, lon in zip(lats, lons, strict=True)]
+    line = [(lon / scale, lat / scale) for lat, lon in zip(lats, lons, strict=True)]
+    return line if len(line) > 1 else None
 
 
 def is_same_line(one: Points, other: Points, tolerance: float) -> bool:

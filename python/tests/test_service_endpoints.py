@@ -56,9 +56,9 @@ def test_how_many_places_there_may_be(service, least, most):
         try:
             return len(parse_request(endpoints.find_endpoint(path), path, query, 1000.0).places)
         except RequestError as error:
-            return error.code
+            return error.message if error.code == "TooBig" else error.code
 
-    wanted = ["InvalidQuery", least, most, "TooBig" if most > 1 else "InvalidQuery"]
+    wanted = ["InvalidQuery", least, most, f"there may be {most} places" if most > 1 else "InvalidQuery"]
     assert [ended(count) for count in (least - 1, least, most, most + 1)] == wanted
 
 

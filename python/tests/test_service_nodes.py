@@ -29,7 +29,7 @@ from domethyme_service.wsgi import Options
 def told(tmp_path_factory):
     """What a service of two nodes tells of each line of a batch of lengths."""
     service = serve(one_road((0.0, 0.0), (0.001, 0.0)), tmp_path_factory.mktemp("road"))
-    return lambda *lines: ask(service, "/nodes/lengths", "\n".join(lines))[1]
+    return lambda *lines: ask(service, "/nodes/lengths", "\n".join(lines), HTTP_CONTENT_ENCODING="Identity")[1]
 
 
 def test_faults_in_lines_of_a_batch(told):

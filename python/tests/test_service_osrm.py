@@ -6,6 +6,8 @@ from reach_case import Road, prepared
 from service_case import ServiceCase
 from test_generated_service import ask, open_service
 
+from domethyme_service import osrm
+
 HIGH = "0.0003,0.00001;0.0077,-0.00002"
 
 
@@ -41,6 +43,7 @@ def test_a_trace_with_a_gap(tmp_path, gaps, ways, stops):
     ("route/v1/car/9.5,47;9.5,47?bearings=90,9;0,9&radiuses=;50.5",
      "{road} of that bearing within 50.5 m of place 1, 9.5,47 (LON,LAT). {box} 1"),
     ("route/v1/car/9.5,47;9.5,47.1?radiuses=;0&bearings=90,9;", "{road} within 0 m of place 1, 9.5,47.1 (LON,LAT). {box} 1"),
+    ("table/v1/car/9.5,47;9.5,47.1?radiuses=unlimited;0", "{road} within 0 m of place 1, 9.5,47.1 (LON,LAT). {box} 1"),
     ("table/v1/car/9.5,47;9.5,47?bearings=;0,9&radiuses=;unlimited", "{road} of that bearing for place 1, 9.5,47 (LON,LAT). {box} 1"),
     ("route/v1/car/9.5,47;9.501,47;9.502,47;9.5,47?continue_straight=true", "there is no route from place 1 to place 2"),
     ("route/v1/car/9.5,47;9.501,47;9.502,47;9.5,47", "there is no route from place 1 to place 2"),
@@ -48,11 +51,12 @@ def test_a_trace_with_a_gap(tmp_path, gaps, ways, stops):
     ("route/v1/car/10,100;9.5,47", "place 0 is 10,100: {first}; is it LAT,LON?"),
     ("nearest/v1/car/9.5,47;1,2;3,4", "the path has to have one place, and has 3"),
     ("match/v1/car/9.5,47", "the path has to have two places or more, and has 1"),
-    ("match/v1/car/9.5,47;9.5,49;9.501,47?waypoints=0;1;2", "place 1 is one of waypoints, and has no match"),
+    ("match/v1/car/9.5,47;9.5,49;9.5,48;9.501,47?waypoints=0;1;2;3", "place 1 is one of waypoints, and has no match"),
     ("route/v1/car/9.5,47;9.501,47?exclude=toll,ferry", "exclude=ferry,toll isn't answered: it was started without --exclude"),
 ])
-def test_what_messages_say(tmp_path, path, says):
+def test_what_messages_say(tmp_path, monkeypatch, path, says):
     """Which place is meant, whether its numbers may be the wrong way round, and at the end its own number, as VROOM reads it."""
+    monkeypatch.setattr(osrm, "SNAP_BATCH", 1)
     places = [(9.5, 47.0), (9.501, 47.0), (9.502, 47.0), (9.503, 47.0)]
     prepared(places, [Road(0, 1, 1000, 1000), Road(2, 3, 1000, 1000)], tmp_path / "net").close()
     message = ask(open_service(tmp_path / "net"), f"/{path}")[1]["message"]
