@@ -22,7 +22,7 @@ from model.answers import Refused
 from comparing import decoded, difference
 from model.network import Ambiguous
 from model.request import Request
-from model.steps import modifier_of
+from model.steps import modifier_of, turned
 
 import domethyme
 from domethyme_service import osrm, osrm_tables, osrm_trip, tiles
@@ -42,25 +42,23 @@ OFTEN = (
 
 
 def serve(drawn: Drawn, folder: pathlib.Path) -> Service:
-    """The service of a network, in this process."""
     write_network(drawn, folder / "net")
     return open_service(folder / "net")
 
 
 def open_service(prefix: pathlib.Path) -> Service:
+    """The service of a network, in this process."""
     dataset = open_dataset(DatasetPaths(f"{prefix}.rch", str(prefix), towards=True))
     return Service(dataset, Options(AccessPolicy.from_options(["x"], "none")), SharedMetrics())
 
 
 def environ_of(target: str, lines: str = "") -> dict[str, Any]:
     """WSGI's environ of a request, or of a batch of lines."""
-    environ: dict[str, Any] = {
+    body = {"REQUEST_METHOD": "POST", "CONTENT_TYPE": "application/json", "CONTENT_LENGTH": str(len(lines))} if lines else {}
+    return {
         "RAW_URI": target, "REQUEST_METHOD": "GET", "HTTP_HOST": "x", "SERVER_PROTOCOL": "HTTP/1.1", "REMOTE_ADDR": "127.0.0.1",
-        "SERVER_NAME": "127.0.0.1",
+        "SERVER_NAME": "127.0.0.1", "wsgi.input": io.BytesIO(lines.encode()), **body,
     }
-    if lines:
-        environ |= {"REQUEST_METHOD": "POST", "CONTENT_TYPE": "application/json", "CONTENT_LENGTH": str(len(lines))}
-    return {**environ, "wsgi.input": io.BytesIO(lines.encode())}
 
 
 def ask(service: Service, target: str, lines: str = "", **more: str) -> tuple[int, Any]:
@@ -283,14 +281,13 @@ def check(made: Drawn, service: Service, request: Request, codes: set[str]) -> N
 
 
 def maneuvers(found: Any) -> list[Any]:
-    return [
-        step["maneuver"] for route in found.get("routes", found.get("trips", [])) for leg in route["legs"] for step in leg["steps"]
-    ]
+    routes = [route for name in ("routes", "trips", "matchings") for route in found.get(name, [])]
+    return [step["maneuver"] for route in routes for leg in route["legs"] for step in leg["steps"]]
 
 
 def has_its_modifier(maneuver: Any) -> bool:
     """Whether a turn's modifier is that of the degrees between its bearings, which are integers."""
-    angle = (maneuver["bearing_after"] - maneuver["bearing_before"] + 180) % 360 - 180
+    angle = turned(maneuver["bearing_after"] - maneuver["bearing_before"])
     return maneuver["type"] not in ("turn", "new name", "continue") or maneuver["modifier"] == modifier_of(angle)
 
 
@@ -299,9 +296,9 @@ def fit_the_line(found: Any, request: Request) -> bool:
     route, steps = found["routes"][0], 0
     for leg in route["legs"]:
         counts = {len(values) - (name == "nodes" and len(values) > 0) for name, values in leg.get("annotation", {}).items()}
+        steps += sum(counts)
         if len(counts) > 1:
             return False
-        steps += sum(counts)
     if not request.annotations() or request.value("overview") != "full":
         return True
     line = decoded(route["geometry"], request.value("geometries", "polyline"))

@@ -5,42 +5,34 @@ import os
 import re
 import subprocess
 import sys
-import unittest
 
 import pytest
 from service_case import ServiceCase, resident
 from tool_case import TOOLS
 
-from domethyme_service import endpoints, metrics, openapi
+from domethyme_service import endpoints, metrics
 from domethyme_service.errors import RequestError
 from domethyme_service.osrm_request import parse_request
 
-PAGE = TOOLS.parent / "docs/SERVICE.md"
+PAGE, OPENAPI = (TOOLS.parent / "docs" / name for name in ("SERVICE.md", "openapi.json"))
 
 
-class TableTests(unittest.TestCase):
-    def test_the_page_has_the_tables(self):
-        lines = PAGE.read_text(encoding="utf-8")
-        for table in endpoints.tables():
-            text = "\n".join(table)
-            self.assertIn(f"\n\n{text}\n\n", lines, f"docs/SERVICE.md has another table than this:\n{text}")
+def test_the_page_has_the_tables():
+    """And the commands print them, and the document of OpenAPI."""
+    tables, page = ["\n".join(table) for table in endpoints.tables()], PAGE.read_text(encoding="utf-8")
+    assert [table for table in tables if f"\n\n{table}\n\n" not in page] == []
+    for module, wanted in (("endpoints", "\n\n".join(tables) + "\n"), ("openapi", OPENAPI.read_text(encoding="utf-8"))):
+        words = [sys.executable, "-m", f"domethyme_service.{module}"]
+        printed = subprocess.run(words, cwd=TOOLS.parent / "python", capture_output=True, encoding="utf-8", check=True).stdout
+        assert printed == wanted
 
-    def test_the_commands_print_them(self):
-        tables = "\n\n".join("\n".join(table) for table in endpoints.tables()) + "\n"
-        for module, wanted in (("endpoints", tables), ("openapi", (PAGE.parent / "openapi.json").read_text(encoding="utf-8"))):
-            words = [sys.executable, "-m", f"domethyme_service.{module}"]
-            printed = subprocess.run(words, cwd=TOOLS.parent / "python", capture_output=True, encoding="utf-8", check=True).stdout
-            self.assertEqual(printed, wanted)
 
-    def test_statuses_are_counted(self):
-        """Each status of the package has a counter."""
-        text = "".join(path.read_text() for path in (TOOLS.parent / "python/domethyme_service").glob("*.py"))
-        found = {int(number) for number in re.findall(r"(?:RequestError|Response|make_response)\(\s*([1-5]\d\d),", text)}
-        self.assertGreater(len(found), 9)
-        self.assertLessEqual(found, {*metrics.STATUSES})
-
-    def test_names_differ(self):
-        self.assertEqual(len(endpoints.BY_NAME), len(endpoints.ENDPOINTS))
+def test_names_and_statuses():
+    """Each endpoint has a name of its own, and each status of the package a counter."""
+    assert len(endpoints.BY_NAME) == len(endpoints.ENDPOINTS)
+    text = "".join(path.read_text() for path in (TOOLS.parent / "python/domethyme_service").glob("*.py"))
+    found = {int(number) for number in re.findall(r"(?:RequestError|Response|make_response)\(\s*([1-5]\d\d),", text)}
+    assert len(found) > 9 and found <= {*metrics.STATUSES}
 
 
 @pytest.mark.parametrize("service, least, most", [
@@ -82,28 +74,30 @@ class EndpointTests(ServiceCase):
             path = endpoint.path
             for word, right in paths.items():
                 path = path.replace(word, right)
-            with self.subTest(path=path):
-                if path:
-                    status, found = self.ask(f"{path}?colour=red", endpoint.method, b"" if endpoint.method == "POST" else None)
-                    self.assertEqual(status, 200 if endpoint.parameters is None else 400)
-                    if status == 400:
-                        self.assertEqual(found, {"code": "InvalidQuery", "message": endpoint.unknown.format("colour")})
+            if path:
+                status, found = self.ask(f"{path}?colour=red", endpoint.method, b"" if endpoint.method == "POST" else None)
+                self.assertEqual(status, 200 if endpoint.parameters is None else 400, path)
+                if status == 400:
+                    self.assertEqual(found, {"code": "InvalidQuery", "message": endpoint.unknown.format("colour")})
 
     def test_answers_have_the_shapes_of_openapi(self):
-        """docs/openapi.json is what the table makes, and answers of all endpoints are as it says."""
-        described = json.loads((PAGE.parent / "openapi.json").read_text(encoding="utf-8"))
-        self.assertEqual(described, json.loads(json.dumps(openapi.document())), "python3 -m domethyme_service.openapi prints another one")
+        described = json.loads(OPENAPI.read_text(encoding="utf-8"))
+        shapes = described["components"]["schemas"]
         self.serve("--network", self.folder / "v")
         place, far = "0.0003,0.00001", "0.0077,-0.00002"
         every = "steps=true&annotations=true&overview=full"
         asked = {
             "/": [""], "/map/{FILE}": ["/map/main.js"], "/map/about": [""], "/map/roads/{ZOOM}/{X}/{Y}": ["/map/roads/16/32768/32767"],
-            "/route/v1/{PROFILE}/{PLACES}": [f"/route/v1/car/{place};{far}{query}" for query in ("", f"?{every}", f"?{every}&geometries=geojson")],
-            "/nearest/v1/{PROFILE}/{PLACE}": [f"/nearest/v1/car/{place}?number=3"],
+            "/route/v1/{PROFILE}/{PLACES}": [
+                f"/route/v1/car/{place};{far}{query}" for query in ("", f"?{every}", f"?{every}&geometries=geojson")
+            ],
+            "/nearest/v1/{PROFILE}/{PLACE}": [f"/nearest/v1/car/{place}{query}" for query in ("?number=3", "?skip_waypoints=true")],
             "/table/v1/{PROFILE}/{PLACES}": [f"/table/v1/car/{place};{far}?annotations=duration,distance,weight&fallback_speed=1"],
             "/trip/v1/{PROFILE}/{PLACES}": [f"/trip/v1/car/{place};{far}?{every}"],
-            "/match/v1/{PROFILE}/{PLACES}": [f"/match/v1/car/{place};0.0013,0;{far}?{every}", f"/match/v1/car/{place};0.0013,0;{far}?waypoints=0;2",
-                                                    "/match/v1/car/0.0003,0;0.0013,0;0.5,0.5"],
+            "/match/v1/{PROFILE}/{PLACES}": [
+                f"/match/v1/car/{place};0.0013,0;{far}?{every}", f"/match/v1/car/{place};0.0013,0;{far}?waypoints=0;2",
+                "/match/v1/car/0.0003,0;0.0013,0;0.5,0.5"
+            ],
             "/isochrone/v1/{PROFILE}/{PLACE}": [f"/isochrone/v1/car/{place}?contours_minutes=1&polygons={each}" for each in ("true", "false")],
             "/nodes/route": ["?from=1&to=7", "?from=1&to=99"], "/nodes/length": ["?from=1&to=7"], "/nodes/routes": [""], "/nodes/lengths": [""],
             "/health": [""], "/metrics": [""],
@@ -118,11 +112,10 @@ class EndpointTests(ServiceCase):
                 self.assertIn(self.headers["Content-Type"].partition(";")[0], (media, "text/javascript"))
                 values = map(json.loads, found.splitlines()) if method == "post" else [found]
                 for value in values:
-                    self.assertEqual([*problems(value, content["schema"], described["components"]["schemas"])], [], path)
-        with self.subTest("other shapes are found"):
-            shape, health = {"$ref": "#/components/schemas/Health"}, {"status": "ok", "nodes": 1, "links": 1, "towards": True, "alternatives": 0}
-            for value in ({"status": "ok", "nodes": 1}, {**health, "nodes": "1"}, {**health, "x": 1}):
-                self.assertTrue([*problems(value, shape, described["components"]["schemas"])])
+                    self.assertEqual([*problems(value, content["schema"], shapes)], [], path)
+        health = {"status": "ok", "nodes": 1, "links": 1, "towards": True, "alternatives": 0}
+        for value in ({"status": "ok", "nodes": 1}, {**health, "nodes": "1"}, {**health, "x": 1}):
+            self.assertTrue([*problems(value, shapes["Health"], shapes)])
 
 
 def test_metrics_of_several_processes():
@@ -171,7 +164,3 @@ def problems(value, schema, shapes):
         yield from (f"{name} is missing, or isn't known" for name in sorted(names))
         for name in value.keys() & known.keys():
             yield from problems(value[name], known[name], shapes)
-
-
-if __name__ == "__main__":
-    unittest.main()

@@ -24,17 +24,17 @@ class OsrmCase(ServiceCase):
         return found
 
 
-@pytest.mark.parametrize("gaps, ways, stops", [
-    ("split", [0, 0, 0, 1, 1, 1], [0, None, 1, 0, None, 1]), ("ignore", [0] * 6, [0, None, None, None, None, 1]),
+@pytest.mark.parametrize("gaps, ways, stops, legs", [
+    ("split", [0, 0, 0, 1, 1, 1], [0, None, 1, 0, 1, 2], [1, 2]), ("ignore", [0] * 6, [0, None, None, None, 1, 2], [2]),
 ])
-def test_a_trace_with_a_gap(tmp_path, gaps, ways, stops):
+def test_a_trace_with_a_gap(tmp_path, gaps, ways, stops, legs):
     """The ends of each way are ends of legs, and of the others those of `waypoints`, which may be on different ways."""
     prepared([(0, 0), (0.02, 0)], [Road(0, 1, 20_000, 20_000)], tmp_path / "net").close()
     places = ";".join(f"{0.001 + 0.003 * number:.3f},0" for number in range(6))
-    path = f"/match/v1/car/{places}?timestamps=0;10;20;900;910;920&waypoints=0;5&gaps={gaps}"
+    path = f"/match/v1/car/{places}?timestamps=0;10;20;900;910;920&waypoints=0;4;5&gaps={gaps}"
     found = ask(open_service(tmp_path / "net"), path)[1]
     assert [(point["matchings_index"], point["waypoint_index"]) for point in found["tracepoints"]] == [*zip(ways, stops)]
-    assert [len(way["legs"]) for way in found["matchings"]] == [1] * len({*ways})
+    assert [len(way["legs"]) for way in found["matchings"]] == legs
 
 
 @pytest.mark.parametrize("path, says", [
