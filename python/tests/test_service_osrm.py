@@ -75,7 +75,7 @@ class RequestTests(OsrmCase):
     def test_options(self):
         """Cells of a table, metres to a road, and the words that PROFILE may be; without --profile any will do."""
         self.serve("--network", self.folder / "v", "--table-cells", "5", "--radius", "70", "--profile", "car", "--profile", "driving")
-        self.assertIn("no road within 70 m of place 0", self.ask("/nearest/v1/car/0.0005,-0.0007")[1]["message"])
+        self.assertIn("no road within 70 m of place 0", self.ask("/nearest/v1/car/-0.0025,0.001")[1]["message"])
         self.good(f"/table/v1/car/{HIGH};0.001,0;0.002,0;0.003,0?destinations=1")
         for query in (";0.001,0", "?sources=0;1;1&destinations=0;0"):
             status, found = self.ask(f"/table/v1/car/{HIGH}{query}")

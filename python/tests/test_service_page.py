@@ -4,7 +4,6 @@ import math
 import os
 import pathlib
 import re
-import unittest
 
 import pytest
 from browser import Browser
@@ -47,44 +46,41 @@ class FileTests(ServiceCase):
             self.assertEqual(self.ask(path)[1]["code"], "InvalidService")
 
 
-class ColourTests(unittest.TestCase):
-    def test_contrast(self):
-        """Shapes have a contrast of 3:1 or more to their background, and texts of 4.5:1, in light and in dark."""
-        light, dark = re.findall(r":root \{(.*?)\}", (PAGE / "style.css").read_text(), re.DOTALL)
-        schemes = [dict(re.findall(r"--([a-z0-9-]+): (#[0-9a-f]{6})", text)) for text in (light, dark)]
-        for colours in schemes:
-            shapes = [(f"road-{kind}", "ground") for kind in range(6)] + [("route", "ground"), ("other", "ground"), ("arrow", "route")]
-            shapes += [("edge", "panel"), ("focus", "panel"), ("focus", "ground"), ("start", "ground"), ("end", "ground")]
-            shapes += [("via", "ground"), ("route", "road")]
-            texts = [("ink", "panel"), ("ink", "ground"), ("soft", "panel"), ("soft", "ground"), ("name", "ground"),
-                     ("name", "road"), ("fault", "fault-ground"), ("ink", "hover"), ("soft", "hover"), ("on-mark", "start"),
-                     ("on-mark", "end"), ("on-mark", "via")]
-            for pairs, least in ((shapes, 3), (texts, 4.5)):
-                for front, back in pairs:
-                    with self.subTest(front=front, back=back):
-                        self.assertGreaterEqual(contrast(colours[front], colours[back]), least)
+# The front and the back of what is shown, by names of colours.
+SHAPES = "route ground,other ground,arrow route,edge panel,focus panel,focus ground,start ground,end ground,via ground,route road"
+WORDS = "ink panel,ink ground,soft panel,soft ground,name ground,name road,fault fault-ground,ink hover,soft hover,on-mark start,on-mark end"
+
+
+def test_contrast():
+    """Shapes have a contrast of 3:1 or more to their background, and texts of 4.5:1, in light and in dark."""
+    light, dark = re.findall(r":root \{(.*?)\}", (PAGE / "style.css").read_text(), re.DOTALL)
+    for colours in (dict(re.findall(r"--([a-z0-9-]+): (#[0-9a-f]{6})", text)) for text in (light, dark)):
+        shapes, words = [*SHAPES.split(","), *(f"road-{kind} ground" for kind in range(6))], [*WORDS.split(","), "on-mark via"]
+        for pairs, least in ((shapes, 3), (words, 4.5)):
+            assert [pair for pair in pairs if contrast(*(colours[name] for name in pair.split())) < least] == []
 
 
 @pytest.mark.needs("chromium")
 class BrowserCase(ServiceCase):
-    network, options = "v", ()
+    """At the end the console has no error, except of the paths `refused`, and no other server was requested."""
+
+    network, options, refused = "v", (), ()
 
     def setUp(self):
         super().setUp()
         self.serve("--network", self.folder / self.network, *self.options)
         self.browser = Browser()
         self.addCleanup(self.browser.close)
+        self.addCleanup(self.be_quiet)
 
     def open(self, fragment="", **window):
         self.browser.open(f"http://127.0.0.1:{self.port}/{fragment}", **window)
         self.browser.until("document.getElementById('scale').textContent !== '' && document.getElementById('hint').textContent !== ''")
 
-    def quiet(self, *but):
-        """Asserts that the console has no error, except of these paths, and that no other server was requested."""
-        own = f"http://127.0.0.1:{self.port}/"
-        faults = [each for each in self.browser.faults if not any(path in json.dumps(each) for path in but)]
-        self.assertEqual(faults, [])
-        self.assertEqual([each for each in self.browser.asked if not each.startswith((own, "about:"))], [])
+    def be_quiet(self):
+        faults = [each for each in self.browser.faults if not any(path in json.dumps(each) for path in self.refused)]
+        own = f"http://127.0.0.1:{self.port}/", "about:"
+        self.assertEqual((faults, [each for each in self.browser.asked if not each.startswith(own)]), ([], []))
 
     def steps(self, *wanted):
         """Waits for steps whose texts have these beginnings."""
@@ -115,18 +111,6 @@ class TablesCase(BrowserCase):
         return super().serve(*words, **options)
 
 
-class WeightTests(TablesCase):
-    nodes = "".join(f"{number},{number / 1000},0\n" for number in range(5))
-    arcs = "".join(f"{number},{number + 1},0,250,\n" for number in range(4))
-
-    def test_the_weight_is_shown(self):
-        self.open("#0,0;0.004,0")
-        self.browser.until("document.getElementById('total').textContent !== ''")
-        self.assertEqual(self.text_of("total"), "weight 1000440 m")
-        self.assertNotIn("min", self.text_of("steps"))
-        self.quiet()
-
-
 class ChoiceTests(TablesCase):
     """Of two routes the longer one has a middle of which each part is a shortest path, so it's worth to be chosen."""
 
@@ -138,6 +122,8 @@ class ChoiceTests(TablesCase):
     def chosen(self, weight, street, number):
         self.browser.until(f"document.getElementById('total').textContent.startsWith('weight {weight}')")
         self.steps(f"Start on {street}", "Arrive at the destination")
+        self.assertRegex(self.text_of("total"), rf"^weight {weight}[\d.]+ k?m$")  # (and no minutes)
+        self.assertNotIn("min", self.text_of("steps"))
         self.assertEqual(self.browser.value("[...document.querySelectorAll('#choices input')].findIndex(each => each.checked)"), number)
         self.assertEqual(self.browser.drawn("return document.querySelectorAll('#route .others .other').length"), 1)
 
@@ -158,7 +144,6 @@ class ChoiceTests(TablesCase):
         self.open("#0,0;0.004,0.002;0.008,0")
         self.steps("Start on Upper", "Arrive at the stop", "Continue on Upper", "Arrive at the destination")
         self.assertTrue(self.browser.value("document.getElementById('choices').hidden"))
-        self.quiet()
 
 
 class TripTests(TablesCase):
@@ -188,7 +173,6 @@ class TripTests(TablesCase):
             self.assertLess(math.dist(got, wanted), 1e-4)
         self.assertTrue(self.browser.value("document.getElementById('reverse').hidden && document.title.endsWith('Round trip')"))
         self.keep("trip")
-        self.quiet()
 
     def test_a_link_a_drag_and_keys(self):
         """A place that is dragged is asked for once it is released. The focus stays with its place."""
@@ -210,7 +194,6 @@ class TripTests(TablesCase):
         self.browser.value("document.querySelector('#modes [value=route]').click()")
         self.steps("Start on North", "Turn right onto East", "Arrive at the stop", "Continue on South", "Arrive at the destination")
         self.assertEqual(self.browser.value("location.hash.split(';').length"), 3)
-        self.quiet()
 
 
 class PointerTests(BrowserCase):
@@ -243,7 +226,6 @@ class PointerTests(BrowserCase):
         self.steps(*STRAIGHT)
         self.browser.value("document.getElementById('clear').click()")
         self.browser.until("document.querySelectorAll('.mark').length === 0 && location.hash === ''")
-        self.quiet()
 
     def mark(self, number, east=0):
         """The middle of a mark, or a point this many pixels east of it."""
@@ -262,7 +244,7 @@ class PointerTests(BrowserCase):
         self.keep("no_road")
         self.open("#0,0;x")
         self.assertEqual(self.browser.value("document.querySelectorAll('.mark').length"), 0)
-        self.quiet("/route/v1/car/")
+        self.refused = "/route/v1/car/",
 
     def test_coordinates_that_are_typed(self):
         self.open()
@@ -278,7 +260,6 @@ class PointerTests(BrowserCase):
         self.steps(*STRAIGHT)
         self.assertEqual(self.browser.value("location.hash"), "#0.00030,0.00001;0.00770,-0.00002")
         self.keep("typed")
-        self.quiet()
 
     def test_words_and_lines(self):
         """Hours; and the box and the nearest leg of a line of more points than a call takes as arguments."""
@@ -314,11 +295,9 @@ class PointerTests(BrowserCase):
         self.assertEqual(self.browser.drawn(overlaps), 0)
         self.keep("scale")
 
-    def test_a_phone(self):
+    def test_a_narrow_window_and_a_dark_one(self):
         self.open(width=390, height=844)
         self.assertEqual(self.text_of("hint"), "Tap the map to set the start.")
-
-    def test_a_narrow_window_and_a_dark_one(self):
         self.open(HIGH, width=390, height=844)
         self.steps(*STRAIGHT)
         tops = self.browser.value("['map', 'panel'].map(each => document.getElementById(each).getBoundingClientRect().top)")
@@ -332,7 +311,6 @@ class PointerTests(BrowserCase):
             self.browser.value("document.querySelectorAll('#steps button')[0].click()")
             self.browser.until(f"{colour} === '{ground}'")
             self.keep("dark" if is_dark else "light")
-        self.quiet()
 
 
 class ReachCase(BrowserCase):
@@ -371,7 +349,6 @@ class ReachTests(ReachCase):
         self.browser.value("document.querySelector('#modes [value=route]').click()")
         self.browser.until("document.querySelectorAll('#reach path').length === 0 && !location.hash.includes('reach')")
         self.assertTrue(self.browser.value("document.getElementById('limits').hidden && document.getElementById('save').hidden"))
-        self.quiet()
 
     def test_a_link_on_a_phone(self):
         """It has the mode, the numbers and the place; another place without a road is refused, and the map stays narrow."""
@@ -385,7 +362,7 @@ class ReachTests(ReachCase):
         self.browser.until("document.getElementById('fault').textContent.includes('no road near the start')")
         self.open("#reach=9,5;0,0")
         self.browser.until("document.querySelector('#modes [value=route]').checked")
-        self.quiet("/isochrone/v1/car/")
+        self.refused = "/isochrone/v1/car/",
 
     def test_what_is_not_offered(self):
         """Without --towards there are no other routes, and nobody who gets here."""
@@ -397,7 +374,6 @@ class ReachTests(ReachCase):
         self.open("#towards=0.2;0.00200,0.00000")
         self.browser.until("document.querySelector('#modes [value=route]').checked")
         self.assertFalse(any("alternatives" in each or "reverse" in each for each in self.browser.asked))
-        self.quiet()
 
     def test_by_keys_alone(self):
         self.open("#reach=0.2;0.00200,0.00000")
@@ -413,7 +389,6 @@ class ReachTests(ReachCase):
         for kind in ("trip", "route"):
             self.browser.press("ArrowLeft")
             self.browser.until(f"document.querySelector('#modes [value={kind}]').checked && document.getElementById('limits').hidden")
-        self.quiet()
 
 
 class TowardsTests(ReachCase):
@@ -434,7 +409,7 @@ class TowardsTests(ReachCase):
         self.keep("towards_narrow")
         self.open("#towards=5;0.5,0.5")
         self.browser.until("document.getElementById('fault').textContent.includes('no road near the destination')")
-        self.quiet("/isochrone/v1/car/")
+        self.refused = "/isochrone/v1/car/",
 
 
 class KeyboardTests(BrowserCase):
@@ -462,7 +437,6 @@ class KeyboardTests(BrowserCase):
         self.browser.press("Delete")
         self.assertEqual(self.browser.value("document.querySelectorAll('.mark').length"), 1)
         self.assertTrue(self.browser.value("document.activeElement.classList.contains('mark')"))
-        self.quiet()
 
     def tab(self, name):
         """Moves to an element by Tab, and asserts that each on the way shows the focus."""
