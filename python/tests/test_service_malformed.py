@@ -77,17 +77,14 @@ class Draw(random.Random):
 
 
 def by_get(_draw: Draw, path: str) -> bytes:
-    """A request of a path."""
     return f"GET {path} HTTP/1.1\r\nHost: x\r\n\r\n".encode("latin-1")
 
 
 def whole(_draw: Draw, text: str) -> bytes:
-    """A request as it is."""
     return text.encode("latin-1")
 
 
 def with_length(_draw: Draw, text: str) -> bytes:
-    """A request with the length of its body."""
     head, _, body = text.partition("\r\n\r\n")
     return f"{head}\r\nContent-Length: {len(body)}\r\n\r\n{body}".encode("latin-1")
 
@@ -273,7 +270,6 @@ class InProcess:
             self.settings.set(name, value)
 
     def answer(self, request: bytes) -> Answer:
-        """The answer to the bytes of a request."""
         error, begun = malformed(), []
         if classify_head(request[:MAX_HEAD]) is HeadState.WHOLE:
             with contextlib.suppress(ParseException, ValueError, OSError):

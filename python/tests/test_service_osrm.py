@@ -102,5 +102,4 @@ class RequestTests(OsrmCase):
                 self.assertEqual(["0.0003" in said, "127.0.0.1" in said.replace(f"http://127.0.0.1:{self.port}", "")], [bool(are_named)] * 2)
 
     def logged(self):
-        """The lines of the access log."""
         return [json.loads(line) for line in self.said if line.startswith("{")]

@@ -5,11 +5,11 @@ import math
 from collections.abc import Iterator, Sequence
 from typing import Any
 
-from comparing import AnyOf, Contour, Holds, Line, Near, Others, Simplified
+from comparing import AnyOf, Contour, Holds, Line, Near, Others, Simplified, difference
 
 from . import matching
 from .network import Ambiguous, Network, Part, SnappedPoint
-from .request import Request
+from .request import ANNOTATIONS, Request
 from .sphere import Point, along, clip, metres_between
 from .steps import near, steps
 
@@ -87,14 +87,13 @@ def route(network: Network, request: Request) -> Any:
     shown, options = waypoints(network, request, waypoints=points), [network.legs(*ends) for ends in itertools.pairwise(points)]
     refuse("NoRoute", not all(options))
     every = straight_legs(network, points) if request.has("continue_straight") else choices(options)
-    wholes = (route_along(network, request, points, legs, request.stops()) for legs in every)
-    return AnyOf([{"code": "Ok", "routes": Others(whole, most, functools.partial(is_other, whole)), **shown} for whole in wholes])
+    wholes = [route_along(network, request, points, legs, request.stops()) for legs in every]
+    low = wholes[0]["weight"].value
 
+    def is_other(route: dict[str, Any]) -> bool:
+        return {*route} == {*wholes[0]} and len(route["legs"]) == 1 and low - 0.001 <= route["weight"] <= 1.25 * low + 0.001
 
-def is_other(whole: dict[str, Any], other: dict[str, Any]) -> bool:
-    """Whether a route may be another one than the first."""
-    weight = whole["weight"].value
-    return {*other} == {*whole} and len(other["legs"]) == 1 and weight - 0.001 <= other["weight"] <= 1.25 * weight + 0.001
+    return AnyOf([{"code": "Ok", "routes": Others(whole, most, is_other), **shown} for whole in wholes])
 
 
 def straight_legs(network: Network, points: Points) -> list[tuple[Leg, ...]]:
@@ -183,33 +182,31 @@ def route_along(network: Network, request: Request, points: Points, ways: Sequen
 
 def annotation(network: Network, leg: Leg, names: Sequence[str], total: dict[str, Any]) -> dict[str, Any]:
     """The annotations of a leg, for each step of its line: figures are an arc's by metres; speeds and nodes are those of arcs."""
-    parts = [[each and each.value for each in figures(network, [part]).values()] for part in leg]
-    speeds = [metres / seconds if seconds else 0.0 for _, seconds, metres in parts]
-    is_long = all(metres > 30 for *_, metres in parts)
-    # for each step the share of its part; and the ids of nodes, with those between
-    steps, ids = list[tuple[int, float]](), [0]
-    for number, (part, points) in enumerate(zip(leg, part_lines(network, leg))):
+    parts = [{name: each.value if each else 0.0 for name, each in figures(network, [part]).items()} for part in leg]
+    is_long, is_slow = all(part["distance"] > 30 for part in parts), all(part["duration"] > 0.5 for part in parts)
+    rows: dict[str, list[Any]] = {**{name: [] for name in ANNOTATIONS}, "nodes": [0]}
+    for (arc, begin, stop, _), points, part in zip(leg, part_lines(network, leg), parts):
         line = along([(round(lon, 6), round(lat, 6)) for lon, lat in points])
         shares = [(behind - before) / line[-1] for before, behind in itertools.pairwise(line) if behind > before]
-        steps += ((number, share) for share in shares)
-        ends = [network.nodes[node].osm or 0 for node in network.arcs[part[0]][:2]]
-        ids[-1:] = [ends[0] if part[1] == 0 else 0, *[0] * (len(shares) - 1), ends[1] if part[2] == 1 else 0]
+        for name, whole in part.items():
+            rows[name] += (Near(share * whole, 0.005 + 0.01 * whole) for share in shares)
+        speed = part["distance"] / (part["duration"] or math.inf)
+        rows["speed"] += [Near(speed, 0.002 + 0.01 * speed)] * len(shares)
+        rows["datasources"] += [0] * len(shares)
+        start, end = (network.nodes[node].osm or 0 for node in network.arcs[arc][:2])
+        rows["nodes"][-1:] = [start if begin == 0 else 0, *[0] * (len(shares) - 1), end if stop == 1 else 0]
 
     def rule(name: str, found: list[Any]) -> bool:
-        if name in ("nodes", "datasources"):
-            is_of_line = not is_long or name != "nodes" or len(found) != len(ids) or found == ids
-            return is_of_line and {*found} <= ({*ids} if name == "nodes" else {0}) and all(type(value) is int for value in found)
         if name in ("duration", "speed") and not network.has_seconds:
             return all(value is None for value in found)
-        if name == "speed":
-            is_known = is_long and all(seconds > 0.5 for _, seconds, _ in parts)
-            return not is_known or all(min(abs(value - speed) - 0.01 * speed for speed in speeds) <= 0.002 for value in found)
-        wholes = [parts[number][("weight", "duration", "distance").index(name)] for number, _ in steps]
-        rows = zip(found, wholes, (share for _, share in steps)) if is_long and len(found) == len(steps) else ()
-        is_near = all(abs(value - share * whole) <= 0.005 + 0.01 * whole for value, whole, share in rows)
-        return is_near and (not found or abs(sum(found) - total[name].value) <= 0.005 * len(found) + total[name].tolerance)
+        if is_long and len(found) == len(rows[name]) and (is_slow or name != "speed") and difference(found, rows[name]):
+            return False
+        if name in total:
+            return not found or bool(abs(sum(found) - total[name].value) <= 0.005 * len(found) + total[name].tolerance)
+        known = {*rows["nodes"]} if name == "nodes" else {0}
+        return name == "speed" or {*found} <= known and all(type(value) is int for value in found)
 
-    return {name: Holds(f"{name} of {total}, {steps}, {ids}, {speeds}", functools.partial(rule, name)) for name in names}
+    return {name: Holds(f"{name} of {total}, {rows[name]}", functools.partial(rule, name)) for name in names}
 
 
 def nearest(network: Network, request: Request) -> Any:
@@ -233,11 +230,10 @@ def table(network: Network, request: Request) -> Any:
     cells = [[cell(network, request, points, (row, column)) for column in columns] for row in rows]
     found: dict[str, Any] = {f"{name}s": [[each[name] for each in row] for row in cells] for name in names}
     if request.value("fallback_speed"):
-        found["fallback_speed_cells"] = [
-            [at, place] for at, row in enumerate(cells) for place, each in enumerate(row) if each["is_empty"]
-        ]
-    starts, ends = ([points[number] for number in side] for side in (rows, columns))
-    return {"code": "Ok", **found, **waypoints(network, request, sources=starts, destinations=ends)}
+        rows_and_columns = itertools.product(range(len(rows)), range(len(columns)))
+        found["fallback_speed_cells"] = [[*pair] for pair in rows_and_columns if cells[pair[0]][pair[1]]["is_empty"]]
+    sides = {name: [points[number] for number in request.numbers(name)] for name in ("sources", "destinations")}
+    return {"code": "Ok", **found, **waypoints(network, request, **sides)}
 
 
 def cell(network: Network, request: Request, points: Points, pair: tuple[int, int]) -> dict[str, Any]:

@@ -1,7 +1,7 @@
 """The steps of a leg: one begins at another name or mode, at a turn above 45 degrees at a junction, and at a roundabout."""
 import functools
 import itertools
-from collections.abc import Callable, Iterable, Sequence
+from collections.abc import Callable, Sequence
 from typing import Any
 
 from comparing import Direction, Holds, Intersection, Line, Near
@@ -45,12 +45,8 @@ def mode(arc: Arc) -> str:
     return "ferry" if arc.highway == "ferry" else "driving"
 
 
-def count_edges(network: Network, arcs: Iterable[int]) -> int:
-    return len({network.edge_of[arc] for arc in arcs})
-
-
 def is_junction(network: Network, node: int) -> bool:
-    return count_edges(network, (number for number, arc in enumerate(network.arcs) if node in arc[:2])) >= 3
+    return len({network.edge_of[number] for number, arc in enumerate(network.arcs) if node in arc[:2]}) >= 3
 
 
 def directions(lines: Sequence[list[Point]], step: int) -> list[float]:
@@ -77,7 +73,7 @@ def way_of(network: Network, part: Part, line: list[Point]) -> list[Point]:
 
 
 def intersection(network: Network, leg: Sequence[Part], number: int, place: Point, ways: tuple[float, float]) -> Intersection:
-    """The intersection before a part of a leg, by the bearings of the roads by which the leg comes and goes on. A road is an edge, and
+    """The intersection before a part of a leg, by the bearings of the roads by which it comes and goes on. A road is an edge, and
     whether it begins there; it may be entered if an arc leads into it by which one may go on from the arc before."""
     before, behind = leg[number - 1 : number + 1]
     into = network.edge_of[before[0]], not is_along(network, before)
@@ -92,33 +88,28 @@ def intersection(network: Network, leg: Sequence[Part], number: int, place: Poin
     return Intersection(near(place), [*roads.values()], roads[into][0], ways[1])
 
 
-def begins_of(network: Network, leg: Sequence[Part], turns: Sequence[float]) -> list[int]:
-    """Where steps begin, by the parts of a leg and the turn before each but the first."""
-    arcs = [network.arcs[part[0]] for part in leg]
-    found, free_from = [0], next((number for number, arc in enumerate(arcs) if not is_round(arc)), len(arcs))
-    for number in range(1, len(arcs)):
-        before, arc = arcs[number - 1 : number + 1]
-        is_turn = abs(turns[number - 1]) > 45 and is_junction(network, arc.start)
-        if leg[number][1] != 0:  # (at a point within a road it goes on, or turns round)
-            is_turn = is_along(network, leg[number]) != is_along(network, leg[number - 1])
-        is_new = before.name != arc.name or mode(before) != mode(arc) or is_turn
-        is_free = not is_round(before) or number - 1 < free_from  # (a step on a roundabout goes on behind it)
-        if not is_round(before) if is_round(arc) else is_new and is_free:
-            found.append(number)
-    return found if leg else []
+def is_begin(network: Network, leg: Sequence[Part], number: int, turn: float) -> bool:
+    """Whether a step begins with a part of a leg behind the first one, by the turn before it."""
+    *_, before, arc = arcs = [network.arcs[part[0]] for part in leg[: number + 1]]
+    is_turn = abs(turn) > 45 and is_junction(network, arc.start)
+    if leg[number][1] != 0:  # (at a point within a road it goes on, or turns round)
+        is_turn = is_along(network, leg[number]) != is_along(network, leg[number - 1])
+    is_new = before.name != arc.name or mode(before) != mode(arc) or is_turn
+    # (a step on a roundabout goes on behind it)
+    return not is_round(before) if is_round(arc) else is_new and (not is_round(before) or all(map(is_round, arcs[:-1])))
 
 
 def maneuver(network: Network, numbers: Sequence[int], named: int, angle: float) -> dict[str, Any]:
     """The type of the maneuver of a step, with its modifier, and the exit of a roundabout, by its arcs and the one before."""
     before, *behind = (network.arcs[number] for number in numbers)
-    if is_round(behind[0]):
-        # (the edges that leave it behind each of its arcs)
-        followers = (network.followers[number] for number in numbers[1 : max(1, named)])
-        leaving = sum(count_edges(network, (arc for arc in some if not is_round(network.arcs[arc]))) for some in followers)
-        exits = {"exit": 1 + leaving} if named > 0 or not is_round(behind[-1]) else {}
-        return {"type": "roundabout", "modifier": modifier_of(angle), **exits}
     kind = "continue" if before.name == behind[0].name else "turn" if abs(angle) > 45 else "new name"
-    return {"type": kind, "modifier": modifier_of(angle)}
+    if not is_round(behind[0]):
+        return {"type": kind, "modifier": modifier_of(angle)}
+    # (the edges that leave it behind each of its arcs)
+    pairs = ((at, arc) for at in range(1, named) for arc in network.followers[numbers[at]])
+    leaving = {(at, network.edge_of[arc]) for at, arc in pairs if not is_round(network.arcs[arc])}
+    exits = {"exit": 1 + len(leaving)} if named > 0 or not is_round(behind[-1]) else {}
+    return {"type": "roundabout", "modifier": modifier_of(angle), **exits}
 
 
 def steps(
@@ -128,10 +119,10 @@ def steps(
     """The steps of a leg whose parts have these lines; of what rounding decides about only that there are some."""
     arcs, ways, found = [network.arcs[part[0]] for part in leg], [*map(functools.partial(way_of, network), leg, lines)], []
     first, last = directions(ways, 1), directions(ways, -1)
-    turns = [turned(begin - end) for end, begin in zip(last, first[1:])]
-    unsure = Holds("two steps or more", lambda found: len(found) >= 2)
+    turns, unsure = [begin - end for end, begin in zip(last, first[1:])], Holds("two steps or more", lambda found: len(found) >= 2)
     if any(map(is_near_limit, turns)) or not len(first) == len(last) == len(leg):
         return unsure
+    begins = [number for number in range(len(leg)) if not number or is_begin(network, leg, number, turned(turns[number - 1]))]
 
     def add(turn: dict[str, Any], sides: Any, named: Arc, mode: str, leg: Sequence[Part], line: list[Point], passed: Any) -> None:
         texts = {"ref": "; ".join(map(str.strip, named.ref.split(";")))} if named.ref else {}
@@ -143,7 +134,7 @@ def steps(
         })
 
     depart, (start, end) = {"type": "depart"}, (near(point.place) for point in ends)
-    for begin, stop in itertools.pairwise([*begins_of(network, leg, turns), len(leg)]):
+    for begin, stop in itertools.pairwise([*begins, len(leg)]):
         # (a step that enters a roundabout is named after the first arc behind it)
         behind = (number for number in range(begin, stop) if begin and is_round(arcs[begin]) and not is_round(arcs[number]))
         named = next(behind, begin)
