@@ -83,6 +83,29 @@ def test_turns_of_45_degrees(tmp_path: pathlib.Path, end: tuple[float, float], s
             assert [(turn["maneuver"]["type"], turn["maneuver"]["modifier"]) for turn in turns] == [(kind, side)] * bool(kind)
 
 
+RING = (0.0, -0.0003), (0.0003, 0.0), (0.0, 0.0003), (-0.0003, 0.0)
+# South comes to a roundabout; two roads leave it in the east, and one in the north, where Lane comes to it, and one in the west.
+ARMS = ("South", (4, 0)), ("East", (1, 5)), ("Far East", (1, 6)), ("North", (2, 7)), ("Lane", (9, 2)), ("West", (3, 8))
+
+
+@pytest.mark.parametrize("places, wanted", [
+    ("0,-0.0009;0.0009,0", ("roundabout", 1, "East")), ("0,-0.0009;0.0009,0.00045", ("roundabout", 1, "Far East")),
+    ("0,-0.0009;0,0.0009", ("roundabout", 3, "North")), ("0,-0.0009;-0.0009,0", ("roundabout", 4, "West")),
+    ("0.00045,0.0009;-0.0009,0", ("roundabout", 1, "West")), ("0.00045,0.0009;0.0009,0", ("roundabout", 2, "East")),
+    ("0,-0.0009;0.00015,0.00015", ("roundabout", None, "")), ("0.00015,-0.00015;-0.0009,0", ("new name", None, "West")),
+])
+def test_exits_of_a_roundabout(tmp_path: pathlib.Path, places: str, wanted: Any) -> None:
+    """Roads that leave it are counted from where it is entered. A route that begins on it, or ends there, has no exit."""
+    spots = [*RING, (0.0, -0.001), (0.001, 0.0), (0.001, 0.0005), (0.0, 0.001), (-0.001, 0.0), (0.0005, 0.001)]
+    arcs = [
+        Arc(*pair, 1000, 1.0, 90.0, (spots[pair[0]], spots[pair[1]]), way, name, junction="" if name else "roundabout")
+        for way, (name, pair) in enumerate([*(("", (place, (place + 1) % 4)) for place in range(4)), *ARMS])
+    ]
+    roads = Network([Node(*spot) for spot in spots], arcs)
+    _, step, _ = steps(tmp_path, Drawn(roads, roads, False), places)
+    assert (step["maneuver"]["type"], step["maneuver"].get("exit"), step["name"]) == wanted
+
+
 def test_annotations(tmp_path: pathlib.Path) -> None:
     """Segments of a bend have their shares of the arc's figures, of what is driven; ids are those of nodes, and what takes no time
     has no speed."""
