@@ -5,7 +5,6 @@ import os
 import platform
 import re
 import socket
-import subprocess
 import sys
 import time
 from unittest import mock
@@ -15,7 +14,7 @@ import pytest
 from draws import one_road
 from service_case import ServiceCase
 from test_generated_service import ask, serve
-from tool_case import PYTHON, ROOT, SECONDS, TOOLS
+from tool_case import PYTHON, ROOT, TOOLS
 
 from domethyme import find_program
 from domethyme_service import command
@@ -110,36 +109,13 @@ class NodesTests(ServiceCase):
         self.assertRegex(good["time"], r"^[0-9-]{10}T[0-9:]{8}\.[0-9]{3}Z$")
 
 
-class CommandTests(ServiceCase):
-    def refused(self, *words, status=1):
-        return self.run_program([TOOLS / "domethyme-serve", self.folder / "v.rch", "--port", "0", *words], status=status).stderr
-
-    def test_where_it_listens(self):
-        """On the loopback, or on a unix socket for nginx: other addresses are rejected, and nginx's file is named."""
-        for words in (["--host", "0.0.0.0"], ["--host", "::"], ["--host", "192.0.2.1"], ["--bind", "0.0.0.0:5000"], ["--bind", "unix:"]):
-            with self.subTest(words=words):
-                self.assertIn("packaging/nginx/domethyme.conf", self.refused(*words))
-        with socket.create_server(("127.0.0.1", 0)) as taken:
-            port = taken.getsockname()[1]
-            message = f"can't listen at 127.0.0.1, port {port}: Address already in use: another --port, or 0 for any that is free"
-            self.assertEqual(self.refused("--port", port), f"domethyme-serve: {message}\n")
-
-    def test_a_socket_that_is_handed_over(self):
-        with socket.create_server(("0.0.0.0", 0)) as listening:
-            os.dup2(listening.fileno(), 98)
-            self.addCleanup(os.close, 98)
-            words = ["bash", "-c", 'exec 3<&98 98<&-; LISTEN_FDS=1 LISTEN_PID=$$ exec "$@"', "", TOOLS / "domethyme-serve", self.folder / "v.rch"]
-            ended = subprocess.run(list(map(str, words)), capture_output=True, text=True, pass_fds=[98], timeout=SECONDS)
-        self.assertEqual(ended.returncode, 1)
-        self.assertIn("won't listen at 0.0.0.0: other machines ask through nginx", ended.stderr)
-
-    def test_what_can_not_start(self):
-        self.assertIn(f"{self.folder}/net", self.refused("--network", self.folder / "net"))
-        self.write("v.rch", "no hierarchy")
-        self.assertIn(f"{self.folder}/v.rch: is no file that `routecli prepare` wrote", self.refused())
-        words = [sys.executable, "-m", "domethyme_service", self.folder / "none", "--port", "0"]
-        said = self.run_program(words, status=1, environment={"PYTHONPATH": str(PYTHON)}).stderr
-        self.assertEqual(said, f"domethyme-serve: {self.folder}/none: No such file or directory\n")
+@pytest.mark.parametrize("program", [[TOOLS / "domethyme-serve"], [sys.executable, "-m", "domethyme_service"]])
+def test_what_can_not_start(run, tmp_path, monkeypatch, program):
+    monkeypatch.setenv("PYTHONPATH", str(PYTHON))
+    (tmp_path / "v.rch").write_text("no hierarchy")
+    for words, says in ((["v.rch"], "v.rch: is no file that `routecli prepare` wrote"), (["none"], "none: No such file or directory\n"),
+                        (["v.rch", "--network", "net"], "net.net: No such file or directory")):
+        assert run(*program, *words, "--port", "0", status=1).startswith(f"domethyme-serve: {says}")
 
 
 # (some by their old names)
@@ -188,16 +164,19 @@ def test_numbers_of_options(option, low, high):
     ("--connections 9", "--connections is no longer an option: use worker_connections"),
     ("--client-connections 9", "--client-connections is no longer an option: use limit_conn"),
     ("--head-seconds 9", "--head-seconds is no longer an option: use client_header_timeout"),
+    *((f"--{words}", "packaging/nginx/domethyme.conf") for words in (
+        "host 0.0.0.0", "host ::", "host 192.0.2.1", "bind 0.0.0.0:5000", "bind unix:")),
 ])
 def test_options_that_are_refused(words, says, capsys):
-    with pytest.raises(SystemExit, match="2"):
+    """Also other addresses than the loopback's, and sockets without a path."""
+    with pytest.raises(SystemExit) as raised:
         command.main(["a.rch", *words.split()])
-    assert says in capsys.readouterr().err
+    assert says in (capsys.readouterr().err if raised.value.code == 2 else raised.value.code)
 
 
 def test_sockets(tmp_path, monkeypatch):
-    """Of two that systemd passes one is for probes. At a unix socket's path only one at which nobody listens is replaced; a port is
-    free once its service has ended."""
+    """Of two that systemd passes one is for probes, and none may be for other machines. At a unix socket's path only one at which nobody
+    listens is replaced; a port is free once its service has ended."""
     path = tmp_path / "serve.sock"
     with socket.socket(socket.AF_UNIX) as first, socket.socket(socket.AF_UNIX) as asking:
         first.bind(str(path))
@@ -206,6 +185,10 @@ def test_sockets(tmp_path, monkeypatch):
             os.dup2(first.fileno(), 195 + count)
             monkeypatch.setattr(command.systemd, "listen_fds", lambda count=count, **_words: count)
             assert command.open_sockets(None) == ([], has_probe)
+        with socket.create_server(("0.0.0.0", 0)) as listening:
+            os.dup2(listening.fileno(), 197)
+        with pytest.raises(StartupError, match="won't listen at 0.0.0.0: other machines ask through nginx"):
+            command.open_sockets(None)
         os.closerange(196, 198)
         first.listen(0)
         asking.connect(str(path))  # (as many as wait, so that another one is told to come again)
@@ -228,6 +211,8 @@ def test_sockets(tmp_path, monkeypatch):
     for _ in range(2):
         with socket.socket(fileno=int(command.listen_tcp(*address).removeprefix("fd://"))) as listening:
             address = listening.getsockname()
+            with pytest.raises(StartupError, match=f", port {address[1]}: Address already in use: another --port, or 0 for any that is free"):
+                command.listen_tcp(*address)
             with socket.create_connection(address):
                 listening.accept()[0].close()
     command.check_loopback("::1")

@@ -22,17 +22,14 @@ class FileTests(ServiceCase):
         self.serve("--network", self.folder / "v")
         status, text = self.ask("/")
         self.assertEqual((status, self.headers["Content-Type"]), (200, "text/html; charset=utf-8"))
-        policy = dict(directive.split(" ", 1) for directive in self.headers["Content-Security-Policy"].split("; "))
-        self.assertEqual({name for name, value in policy.items() if value == "'self'"}, {"script-src", "style-src", "img-src", "connect-src"})
-        self.assertEqual({name for name, value in policy.items() if value == "'none'"},
-                         {"default-src", "base-uri", "form-action", "frame-ancestors"})
+        wanted = {"'self'": "script-src style-src img-src connect-src", "'none'": "default-src base-uri form-action frame-ancestors"}
+        policy = {f"{name} {value}" for value, names in wanted.items() for name in names.split()}
+        self.assertEqual({*self.headers["Content-Security-Policy"].split("; ")}, policy)
         self.assertNotRegex(text, r"<script>| style=| on[a-z]+=|//")
         for name in re.findall(r'(?:src|href)="(map/[^"]+)"', text):
             self.assertEqual(self.ask(f"/{name}")[0], 200, name)
-        for file in PAGE.iterdir():
-            for name in re.findall(r'from "\./([^"]+)"', file.read_text()):
-                self.assertEqual(self.ask(f"/map/{name}")[0], 200, name)
-        self.assertEqual(self.ask("/map/words.js", "HEAD")[0], 200)
+        for name in {name for file in PAGE.iterdir() for name in re.findall(r'from "\./([^"]+)"', file.read_text())}:
+            self.assertEqual(self.ask(f"/map/{name}")[0], 200, name)
         for path, status in [("/map/", 404), ("/map/page.py", 404), ("/map/../page.py", 404), ("/map/%2e%2e/page.py", 404),
                              ("/map/roads/17/0/0", 400), ("/map/roads/1/2/0", 400), ("/map/roads/1/0/0?z=1", 400),
                              ("/map/roads/1/0", 404), ("/map/roads/-1/0/0", 404), ("/map/about?v=1", 400)]:
@@ -83,7 +80,7 @@ class BrowserCase(ServiceCase):
         self.assertEqual((faults, [each for each in self.browser.asked if not each.startswith(own)]), ([], []))
 
     def steps(self, *wanted):
-        """Waits for steps whose texts have these beginnings."""
+        """Waits for steps of these texts."""
         texts = "[...document.querySelectorAll('#steps .text')].map(each => each.textContent)"
         self.browser.until(f"JSON.stringify({texts}) === JSON.stringify({json.dumps(wanted)})")
 
@@ -137,8 +134,7 @@ class ChoiceTests(TablesCase):
         self.chosen(1100, "Lower", 1)
         self.browser.click(self.browser.pixel(0.002, 0.001))
         self.chosen(1000, "Upper", 0)
-        self.assertEqual(self.browser.value("document.querySelectorAll('.mark').length"), 2)
-        self.browser.value("document.querySelector('#choices :checked').focus()")
+        self.assertEqual(self.browser.value("document.querySelector('#choices :checked').focus(), document.querySelectorAll('.mark').length"), 2)
         self.browser.press("ArrowRight")
         self.chosen(1100, "Lower", 1)
         self.open("#0,0;0.004,0.002;0.008,0")
@@ -166,8 +162,8 @@ class TripTests(TablesCase):
             self.browser.click(self.browser.pixel(*place))
             self.arrived(number + 1 if number else 0)
         self.steps(*self.TRIP)
-        self.assertTrue(self.text_of("total").startswith("weight 2000"))
-        self.assertEqual(self.browser.value("[...document.querySelectorAll('.mark')].map(each => each.textContent).join()"), "A,1,2,3")
+        marks = self.browser.value("[...document.querySelectorAll('.mark')].map(each => each.textContent).join()")
+        self.assertEqual((self.text_of("total")[:11], marks), ("weight 2000", "A,1,2,3"))
         places = [[float(side) for side in place.split(",")] for place in self.browser.value("location.hash").split(";")[1:]]
         for got, wanted in zip(places, ((0, 0), (0.004, 0.002), (0.008, 0), (0.004, -0.002)), strict=True):
             self.assertLess(math.dist(got, wanted), 1e-4)
@@ -234,6 +230,7 @@ class PointerTests(BrowserCase):
         return x + east, y
 
     def test_roads_are_drawn_and_refusals_are_said(self):
+        self.refused = "/route/v1/car/",
         self.open("#0,0;0.02,0.005")
         self.browser.until("document.getElementById('fault').textContent.includes('no route between')")
         colours = """new Set(new Uint32Array(document.getElementById('roads').getContext('2d')
@@ -244,7 +241,6 @@ class PointerTests(BrowserCase):
         self.keep("no_road")
         self.open("#0,0;x")
         self.assertEqual(self.browser.value("document.querySelectorAll('.mark').length"), 0)
-        self.refused = "/route/v1/car/",
 
     def test_coordinates_that_are_typed(self):
         self.open()
@@ -347,15 +343,13 @@ class ReachTests(ReachCase):
         self.browser.until("/^#reach=0.2,0.5;0.00(4|39)/.test(location.hash)")
         self.assertEqual(self.browser.value("document.querySelectorAll('.mark').length"), 1)
         self.browser.value("document.querySelector('#modes [value=route]').click()")
-        self.browser.until("document.querySelectorAll('#reach path').length === 0 && !location.hash.includes('reach')")
-        self.assertTrue(self.browser.value("document.getElementById('limits').hidden && document.getElementById('save').hidden"))
+        self.browser.until("!document.querySelector('#reach path') && !location.hash.includes('reach') && limits.hidden && save.hidden")
 
     def test_a_link_on_a_phone(self):
         """It has the mode, the numbers and the place; another place without a road is refused, and the map stays narrow."""
         self.open("#reach=0.2,0.5;0.00200,0.00000", width=390, height=844)
         self.reached("0.2 min,0.5 min")
-        self.assertTrue(self.browser.value("document.querySelector('#modes [value=reach]').checked"))
-        self.assertEqual(self.browser.value("document.getElementById('numbers').value"), "0.2, 0.5")
+        self.assertEqual(self.browser.value("[document.querySelector('#modes [value=reach]').checked, numbers.value]"), [True, "0.2, 0.5"])
         self.assertLessEqual(self.browser.value("document.documentElement.scrollWidth"), 390)
         self.keep("reach_narrow")
         self.open("#reach=5;0.5,0.5")
@@ -403,8 +397,8 @@ class TowardsTests(ReachCase):
         shown = self.browser.value("import('/map/main.js').then(({reach}) => reach.found)")
         status, wanted = self.ask("/isochrone/v1/car/0.002,0?contours_minutes=0.2,0.5&polygons=true&reverse=true")
         self.assertEqual((200, shown), (status, wanted))
-        self.assertEqual(self.browser.value("document.title"), "0.2, 0.5 min · Who gets here")
-        self.assertEqual(self.browser.value("document.querySelector('.mark').textContent"), "B")
+        titles = self.browser.value("[document.title, document.querySelector('.mark').textContent]")
+        self.assertEqual(titles, ["0.2, 0.5 min · Who gets here", "B"])
         self.assertLessEqual(self.browser.value("document.documentElement.scrollWidth"), 390)
         self.keep("towards_narrow")
         self.open("#towards=5;0.5,0.5")
@@ -435,8 +429,8 @@ class KeyboardTests(BrowserCase):
         self.browser.until(f"location.hash !== {json.dumps(before)}")
         self.assertEqual(self.browser.value("document.querySelectorAll('.mark').length"), 2)
         self.browser.press("Delete")
-        self.assertEqual(self.browser.value("document.querySelectorAll('.mark').length"), 1)
-        self.assertTrue(self.browser.value("document.activeElement.classList.contains('mark')"))
+        left = "[document.querySelectorAll('.mark').length, document.activeElement.classList.contains('mark')]"
+        self.assertEqual(self.browser.value(left), [1, True])
 
     def tab(self, name):
         """Moves to an element by Tab, and asserts that each on the way shows the focus."""
