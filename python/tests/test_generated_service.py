@@ -34,7 +34,8 @@ from domethyme_service.wsgi import Options, Service
 REQUESTS = 6
 # How many places a request of each service has, at most: the small numbers are likelier.
 COUNTS = {"route": [2, 2, 2, 3, 4, 12], "nearest": [1], "table": [1, 2, 3, 6], "trip": [2, 3, 3, 4], "match": [2, 3, 4], "isochrone": [1]}
-# Parameters that a request has more often than others.
+# Types of maneuvers whose modifiers are of the bearings before and after; and parameters that a request has more often than others.
+MODIFIED = ("turn", "new name", "continue")
 OFTEN = (
     "bearings", "approaches", "steps", "overview", "annotations", "waypoints", "snapping", "continue_straight", "sources",
     "destinations", "fallback_speed", "fallback_coordinate", "scale_factor", "roundtrip", "source", "destination"
@@ -171,9 +172,9 @@ def test_each_text_of_a_parameter(tmp_path: pathlib.Path) -> None:
     rows += [("table", "sources", *row) for row in rows_of(KNOWN["table"]["destinations"])]
     rows += [("isochrone", "contours_minutes", text, "InvalidValue") for text in (*LIMITS, *WRONG)]
     rows += [("isochrone", "contours_meters", text, "InvalidValue") for text in (*LIMITS[:-1], *WRONG)]
-    numbers = ("table", "sources", "2"), ("table", "destinations", "0;2"), ("route", "waypoints", "0;2;1")
-    rows += [(*row, "InvalidValue") for row in numbers]
-    rows += [("isochrone", "generalize", "1000000", ""), ("isochrone", "contours_meters", "1000000", "NotImplemented")]
+    rows += [("table", "sources", "2", "InvalidValue"), ("table", "destinations", "0;2", "InvalidValue"),
+             ("route", "waypoints", "0;2;1", "InvalidValue"), ("isochrone", "generalize", "1000000", ""),
+             ("isochrone", "contours_meters", "1000000", "NotImplemented")]
     for what, name, text, code in [*rows, *(("route", name, *row) for name in WORDS for row in words_of(WORDS[name]))]:
         for endpoint in ["route", "nearest", "table", "trip", "match"] if what == "osrm" else [what]:
             where = [(0.0003, 0.0), (0.0007, 0.00001)] if endpoint in ("route", "table", "trip", "match") else [(0.0003, 0.0)]
@@ -269,6 +270,7 @@ def check(made: Drawn, service: Service, request: Request, codes: set[str]) -> N
     except Refused as refused:
         codes = set(refused.args)
     except Ambiguous:
+        assert status in (200, 400), (target(request), found)
         return
     if codes:
         assert (status, found["code"] in codes, set(found)) == (400, True, {"code", "message"}), (target(request), found, codes)
@@ -277,18 +279,15 @@ def check(made: Drawn, service: Service, request: Request, codes: set[str]) -> N
         problem = difference(found, expected)
         assert not problem, (target(request), problem)
         assert request.service != "route" or fit_the_line(found, request), (target(request), found)
-        assert all(map(has_its_modifier, maneuvers(found))), (target(request), found)
+        assert have_their_modifiers(found), (target(request), found)
 
 
-def maneuvers(found: Any) -> list[Any]:
+def have_their_modifiers(found: Any) -> bool:
+    """Whether the modifiers of turns are those of the degrees between their bearings, which are integers."""
     routes = [route for name in ("routes", "trips", "matchings") for route in found.get(name, [])]
-    return [step["maneuver"] for route in routes for leg in route["legs"] for step in leg["steps"]]
-
-
-def has_its_modifier(maneuver: Any) -> bool:
-    """Whether a turn's modifier is that of the degrees between its bearings, which are integers."""
-    angle = turned(maneuver["bearing_after"] - maneuver["bearing_before"])
-    return maneuver["type"] not in ("turn", "new name", "continue") or maneuver["modifier"] == modifier_of(angle)
+    turns = [step["maneuver"] for route in routes for leg in route["legs"] for step in leg["steps"]]
+    rows = [(turn, turned(turn["bearing_after"] - turn["bearing_before"])) for turn in turns if turn["type"] in MODIFIED]
+    return all(turn["modifier"] == modifier_of(angle) for turn, angle in rows)
 
 
 def fit_the_line(found: Any, request: Request) -> bool:

@@ -11,31 +11,25 @@ from service_case import ServiceCase
 from tool_case import PYTHON, contrast
 
 import domethyme
+from domethyme_service import static
 
 PAGE = PYTHON / "domethyme_service/page"
 HIGH = "#0.0003,0.00001;0.0077,-0.00002"
 PICTURES = os.environ.get("PICTURES_OF_PAGE")
 
 
-class FileTests(ServiceCase):
-    def test_files_and_their_policy(self):
-        self.serve("--network", self.folder / "v")
-        status, text = self.ask("/")
-        self.assertEqual((status, self.headers["Content-Type"]), (200, "text/html; charset=utf-8"))
-        wanted = {"'self'": "script-src style-src img-src connect-src", "'none'": "default-src base-uri form-action frame-ancestors"}
-        policy = {f"{name} {value}" for value, names in wanted.items() for name in names.split()}
-        self.assertEqual({*self.headers["Content-Security-Policy"].split("; ")}, policy)
-        self.assertNotRegex(text, r"<script>| style=| on[a-z]+=|//")
-        for name in re.findall(r'(?:src|href)="(map/[^"]+)"', text):
-            self.assertEqual(self.ask(f"/{name}")[0], 200, name)
-        for name in {name for file in PAGE.iterdir() for name in re.findall(r'from "\./([^"]+)"', file.read_text())}:
-            self.assertEqual(self.ask(f"/map/{name}")[0], 200, name)
-        for path, status in [("/map/", 404), ("/map/page.py", 404), ("/map/../page.py", 404), ("/map/%2e%2e/page.py", 404),
-                             ("/map/roads/17/0/0", 400), ("/map/roads/1/2/0", 400), ("/map/roads/1/0/0?z=1", 400),
-                             ("/map/roads/1/0", 404), ("/map/roads/-1/0/0", 404), ("/map/about?v=1", 400)]:
-            self.assertEqual(self.ask(path)[0], status, path)
-        self.assertEqual(self.ask("/", "POST", "")[0], 405)
+def test_files_and_their_policy():
+    """All that the page names is there, and the policy allows no more than these files."""
+    text = (PAGE / "index.html").read_text()
+    assert not re.search(r"<script>| style=| on[a-z]+=|//", text)
+    named = [*re.findall(r'(?:src|href)="(map/[^"]+)"', text)]
+    named += [f"map/{name}" for file in PAGE.iterdir() for name in re.findall(r'from "\./([^"]+)"', file.read_text())]
+    assert {f"/{name}" for name in named} <= {*static.PAGE_FILES}
+    wanted = {"'self'": "script-src style-src img-src connect-src", "'none'": "default-src base-uri form-action frame-ancestors"}
+    assert {*static.POLICY.split("; ")} == {f"{name} {value}" for value, names in wanted.items() for name in names.split()}
 
+
+class FileTests(ServiceCase):
     def test_without_a_network(self):
         self.serve()
         self.assertEqual(self.ask("/")[0], 200)
@@ -242,7 +236,7 @@ class PointerTests(BrowserCase):
         self.open("#0,0;x")
         self.assertEqual(self.browser.value("document.querySelectorAll('.mark').length"), 0)
 
-    def test_coordinates_that_are_typed(self):
+    def test_coordinates_that_are_typed_and_words(self):
         self.open()
         cases = {"0.00001, 0.0003": [0.0003, 0.00001], "47.1 9.5": [9.5, 47.1], " -1.5;+2 ": [2, -1.5], "9.5E 47.1N": [9.5, 47.1],
                  "47.1° N, 9.5° W": [-9.5, 47.1], "1S,2E": [2, -1], "91,0": None, "0,181": None, "1": None, "": None, "1,2,3": None,
@@ -256,10 +250,7 @@ class PointerTests(BrowserCase):
         self.steps(*STRAIGHT)
         self.assertEqual(self.browser.value("location.hash"), "#0.00030,0.00001;0.00770,-0.00002")
         self.keep("typed")
-
-    def test_words_and_lines(self):
-        """Hours; and the box and the nearest leg of a line of more points than a call takes as arguments."""
-        self.open("")
+        # (hours, and the box and the least of a line of more points than a call takes as arguments)
         words = "import('/map/words.js').then(({long}) => [59, 60, 125, 6000].map((minutes) => long(60 * minutes)))"
         self.assertEqual(self.browser.value(words), ["59 min", "1 h 0 min", "2 h 5 min", "100 h 0 min"])
         script = """import('/map/lines.js').then(({boxOf, least}) => {
@@ -271,8 +262,8 @@ class PointerTests(BrowserCase):
         """Though it leads far beyond its places."""
         self.open("#0.008,0.0015;0.008,0.0005", height=150)
         self.browser.until("document.querySelectorAll('#steps .text').length > 1")
-        corners = "import('/map/main.js').then(({route, view}) => [[0, 1], [2, 3], [0, 3], [2, 1]].every((at) => view.has(at.map((side) => route.box[side]), 5)))"
-        self.browser.until(corners)
+        corners = "[[0, 1], [2, 3], [0, 3], [2, 1]].every((at) => view.has(at.map((side) => route.box[side]), 5))"
+        self.browser.until(f"import('/map/main.js').then(({{route, view}}) => {corners})")
 
     def test_names_stay_clear_of_the_scale(self):
         self.open(HIGH)
@@ -296,8 +287,7 @@ class PointerTests(BrowserCase):
         self.assertEqual(self.text_of("hint"), "Tap the map to set the start.")
         self.open(HIGH, width=390, height=844)
         self.steps(*STRAIGHT)
-        tops = self.browser.value("['map', 'panel'].map(each => document.getElementById(each).getBoundingClientRect().top)")
-        self.assertLess(*tops)
+        self.assertLess(*self.browser.value("['map', 'panel'].map(each => document.getElementById(each).getBoundingClientRect().top)"))
         self.assertLessEqual(self.browser.value("document.documentElement.scrollWidth"), 390)
         self.keep("narrow")
         colour = "[...document.getElementById('roads').getContext('2d').getImageData(2, 2, 1, 1).data].join()"
@@ -345,19 +335,6 @@ class ReachTests(ReachCase):
         self.browser.value("document.querySelector('#modes [value=route]').click()")
         self.browser.until("!document.querySelector('#reach path') && !location.hash.includes('reach') && limits.hidden && save.hidden")
 
-    def test_a_link_on_a_phone(self):
-        """It has the mode, the numbers and the place; another place without a road is refused, and the map stays narrow."""
-        self.open("#reach=0.2,0.5;0.00200,0.00000", width=390, height=844)
-        self.reached("0.2 min,0.5 min")
-        self.assertEqual(self.browser.value("[document.querySelector('#modes [value=reach]').checked, numbers.value]"), [True, "0.2, 0.5"])
-        self.assertLessEqual(self.browser.value("document.documentElement.scrollWidth"), 390)
-        self.keep("reach_narrow")
-        self.open("#reach=5;0.5,0.5")
-        self.browser.until("document.getElementById('fault').textContent.includes('no road near the start')")
-        self.open("#reach=9,5;0,0")
-        self.browser.until("document.querySelector('#modes [value=route]').checked")
-        self.refused = "/isochrone/v1/car/",
-
     def test_what_is_not_offered(self):
         """Without --towards there are no other routes, and nobody who gets here."""
         self.open(HIGH)
@@ -386,24 +363,24 @@ class ReachTests(ReachCase):
 
 
 class TowardsTests(ReachCase):
-    """From where a place is reached, by a link on a phone."""
+    options, refused = ("--towards",), ("/isochrone/v1/car/",)
 
-    options = ("--towards",)
-
-    def test_who_gets_here(self):
-        self.open("#towards=0.2,0.5;0.00200,0.00000", width=390, height=844)
-        self.reached("0.2 min,0.5 min")
-        self.assertTrue(self.browser.value("document.querySelector('#modes [value=towards]').checked"))
-        shown = self.browser.value("import('/map/main.js').then(({reach}) => reach.found)")
-        status, wanted = self.ask("/isochrone/v1/car/0.002,0?contours_minutes=0.2,0.5&polygons=true&reverse=true")
-        self.assertEqual((200, shown), (status, wanted))
-        titles = self.browser.value("[document.title, document.querySelector('.mark').textContent]")
-        self.assertEqual(titles, ["0.2, 0.5 min · Who gets here", "B"])
-        self.assertLessEqual(self.browser.value("document.documentElement.scrollWidth"), 390)
-        self.keep("towards_narrow")
-        self.open("#towards=5;0.5,0.5")
-        self.browser.until("document.getElementById('fault').textContent.includes('no road near the destination')")
-        self.refused = "/isochrone/v1/car/",
+    def test_links_on_a_phone(self):
+        """They have the mode, the numbers and the place; another place without a road is refused, and the map stays narrow."""
+        for mode, title, mark, place in (("reach", "Isochrones", "A", "start"), ("towards", "Who gets here", "B", "destination")):
+            self.open(f"#{mode}=0.2,0.5;0.00200,0.00000", width=390, height=844)
+            self.reached("0.2 min,0.5 min")
+            shown = "[document.querySelector('#modes :checked').value, numbers.value, document.title, document.querySelector('.mark').innerText]"
+            self.assertEqual(self.browser.value(shown), [mode, "0.2, 0.5", f"0.2, 0.5 min · {title}", mark])
+            drawn = self.browser.value("import('/map/main.js').then(({reach}) => reach.found)")
+            query = "contours_minutes=0.2,0.5&polygons=true" + "&reverse=true" * (mode == "towards")
+            self.assertEqual((200, drawn), self.ask(f"/isochrone/v1/car/0.002,0?{query}"))
+            self.assertLessEqual(self.browser.value("document.documentElement.scrollWidth"), 390)
+            self.keep(f"{mode}_narrow")
+            self.open(f"#{mode}=5;0.5,0.5")
+            self.browser.until(f"document.getElementById('fault').textContent.includes('no road near the {place}')")
+        self.open("#reach=9,5;0,0")
+        self.browser.until("document.querySelector('#modes [value=route]').checked")
 
 
 class KeyboardTests(BrowserCase):

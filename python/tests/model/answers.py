@@ -62,14 +62,12 @@ def leg_line(network: Network, start: SnappedPoint, leg: Leg, end: SnappedPoint)
 
 def waypoints(network: Network, request: Request, **members: Points) -> dict[str, list[dict[str, Any]]]:
     """The members of an answer with snapped points, if these are asked for."""
-    shown = {} if request.has("skip_waypoints") else members
-    return {name: [waypoint(network, point, request) for point in points] for name, points in shown.items()}
+    def shown(point: SnappedPoint) -> dict[str, Any]:
+        name = next(filter(None, (network.arcs[arc].name for arc in network.edges[point.edge].arcs)), "")
+        hint = {} if request.value("generate_hints") == "false" else {"hint": TEXT}
+        return {"name": name, "location": near(point.place), "distance": Near(point.metres, 2e-5), **hint}
 
-
-def waypoint(network: Network, point: SnappedPoint, request: Request) -> dict[str, Any]:
-    name = next(filter(None, (network.arcs[arc].name for arc in network.edges[point.edge].arcs)), "")
-    hint = {} if request.value("generate_hints") == "false" else {"hint": TEXT}
-    return {"name": name, "location": near(point.place), "distance": Near(point.metres, 2e-5), **hint}
+    return {} if request.has("skip_waypoints") else {name: [*map(shown, points)] for name, points in members.items()}
 
 
 def places_on_roads(network: Network, request: Request) -> list[SnappedPoint]:
@@ -150,13 +148,13 @@ def match(network: Network, request: Request) -> Any:
             stops = [at for at, number in enumerate(way.numbers) if number in ends or number in request.stops()]
             whole = route_along(network, request, way.places, way.legs, stops)
             matchings.append({**whole, "confidence": Near(way.confidence, TRUST)})
-            for at, (number, place) in enumerate(zip(way.numbers, way.places)):
-                which = stops.index(at) if at in stops else None
-                points[number] = {**waypoint(network, place, request), "matchings_index": index, "waypoint_index": which}
-                if at > 0 and place.place == way.places[at - 1].place:  # (it stands: the metres are to the point as it is shown)
-                    points[number]["distance"] = Near(place.metres, STANDING)
-        shown = {} if request.has("skip_waypoints") else {"tracepoints": points}
-        answers.append({"code": "Ok", "matchings": matchings, **shown})
+            for at, shown in enumerate(waypoints(network, request, places=way.places).get("places", [])):
+                shown |= {"matchings_index": index, "waypoint_index": stops.index(at) if at in stops else None}
+                points[way.numbers[at]] = shown
+                if at > 0 and way.places[at].place == way.places[at - 1].place:  # (it stands: metres are to what is shown)
+                    shown["distance"] = Near(way.places[at].metres, STANDING)
+        tracepoints = {} if request.has("skip_waypoints") else {"tracepoints": points}
+        answers.append({"code": "Ok", "matchings": matchings, **tracepoints})
     return AnyOf(answers)
 
 
@@ -226,33 +224,31 @@ def table(network: Network, request: Request) -> Any:
     """Tables of durations, distances and weights."""
     names = request.value("annotations", "duration").split(",")
     refuse("NotImplemented", "duration" in names and not network.has_seconds)
-    points, rows, columns = places_on_roads(network, request), request.numbers("sources"), request.numbers("destinations")
-    cells = [[cell(network, request, points, (row, column)) for column in columns] for row in rows]
+    points, sides = places_on_roads(network, request), [request.numbers(name) for name in ("sources", "destinations")]
+    pairs = [[(row, column) for column in sides[1]] for row in sides[0]]
+    legs = [[network.legs(*(points[number] for number in pair)) for pair in row] for row in pairs]
+    cells = [[cell(network, request, points, *each) for each in zip(*rows)] for rows in zip(pairs, legs)]
     found: dict[str, Any] = {f"{name}s": [[each[name] for each in row] for row in cells] for name in names}
     if request.value("fallback_speed"):
-        rows_and_columns = itertools.product(range(len(rows)), range(len(columns)))
-        found["fallback_speed_cells"] = [[*pair] for pair in rows_and_columns if cells[pair[0]][pair[1]]["is_empty"]]
-    sides = {name: [points[number] for number in request.numbers(name)] for name in ("sources", "destinations")}
-    return {"code": "Ok", **found, **waypoints(network, request, **sides)}
+        found["fallback_speed_cells"] = [[at, place] for at, row in enumerate(legs) for place, some in enumerate(row) if not some]
+    starts, ends = ([points[number] for number in side] for side in sides)
+    return {"code": "Ok", **found, **waypoints(network, request, sources=starts, destinations=ends)}
 
 
-def cell(network: Network, request: Request, points: Points, pair: tuple[int, int]) -> dict[str, Any]:
+def cell(network: Network, request: Request, points: Points, pair: tuple[int, int], legs: Sequence[Leg]) -> dict[str, Any]:
     """A cell of a table: any of the shortest legs has its figures; without one a guess by `fallback_speed`, or None."""
     scale, speed = float(request.value("scale_factor", "1")), float(request.value("fallback_speed", "0"))
-    start, end = (points[number] for number in pair)
-    legs = network.legs(start, end)
     totals = [figures(network, leg) for leg in legs]
     if not legs and speed:
         is_snapped = request.value("fallback_coordinate") == "snapped"  # (the metres are between the points as they are shown)
-        metres = metres_between(*((start.place, end.place) if is_snapped else (request.places[number] for number in pair)))
+        metres = metres_between(*(points[number].place if is_snapped else request.places[number] for number in pair))
         off = (STANDING / speed, STANDING) if is_snapped else (METRES, METRES)
         guess: dict[str, Any] = {"duration": Near(metres / speed, off[0]), "distance": Near(metres, off[1])}
         totals = [{**guess, "weight": guess.get(network.unit)}]
     for total in totals:
         if duration := total["duration"]:
             total["duration"] = Near(duration.value * scale, duration.tolerance * (1 + scale))
-    names = ("duration", "distance", "weight")
-    return {"is_empty": not legs, **{name: AnyOf([total[name] for total in totals]) if totals else None for name in names}}
+    return {name: AnyOf([total[name] for total in totals]) if totals else None for name in ("duration", "distance", "weight")}
 
 
 def isochrone(network: Network, request: Request) -> Any:
