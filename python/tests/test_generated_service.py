@@ -77,7 +77,7 @@ def requests(draw: Any, drawn: Drawn, service: str) -> tuple[Request, set[str]]:
     texts = texts_of(service, count, directions(drawn.roads), is_wrong)
     names = (*OFTEN, *(["radiuses", "timestamps"] if service == "match" else []))
     often = [name for name in names for _ in range(4) if name in texts]
-    chosen = draw(st.lists(st.sampled_from([*sorted(texts), *often]), max_size=6))
+    chosen = draw(st.lists(st.sampled_from([*sorted(texts), *often]), min_size=3, max_size=9))
     rows = {name: draw(texts[name]) for name in dict.fromkeys(chosen)}
     return Request(service, where, {name: text for name, (text, _) in rows.items()}), {code for _, code in rows.values()} - {""}
 

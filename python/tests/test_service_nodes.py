@@ -66,8 +66,8 @@ def test_lines_that_look_good_together(told):
 
 
 class NodesTests(ServiceCase):
-    def test_a_batch_of_one_block_is_sent_whole(self):
-        """With its length, so a client, and nginx, knows where it ends."""
+    def test_a_service_without_a_network(self):
+        """It has no places. A batch of one block is sent whole, with its length, so a client, and nginx, knows where it ends."""
         self.serve()
         line = '{"from": 1, "to": 2}'
         most = "\n".ljust((4 << 20) - len(line))
@@ -76,6 +76,9 @@ class NodesTests(ServiceCase):
             is_whole = "Content-Length" in self.headers
             self.assertEqual((status, text.count("\n"), is_whole), (200, count, count <= 256), (count, len(end)))
         self.assertEqual(self.ask("/nodes/lengths", "POST", line + most + " ")[0], 413)
+        self.assertEqual(self.ask("/")[0], 200)
+        for path in ("/map/about", "/map/roads/1/0/0", "/route/v1/car/0,0;1,1", "/isochrone/v1/car/0,0?contours_minutes=1"):
+            self.assertEqual(self.ask(path)[1]["code"], "InvalidService")
 
     def test_health_metrics_and_log(self):
         self.serve("--access-log")

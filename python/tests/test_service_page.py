@@ -29,14 +29,6 @@ def test_files_and_their_policy():
     assert {*static.POLICY.split("; ")} == {f"{name} {value}" for value, names in wanted.items() for name in names.split()}
 
 
-class FileTests(ServiceCase):
-    def test_without_a_network(self):
-        self.serve()
-        self.assertEqual(self.ask("/")[0], 200)
-        for path in ("/map/about", "/map/roads/1/0/0", "/route/v1/car/0,0;1,1", "/isochrone/v1/car/0,0?contours_minutes=1"):
-            self.assertEqual(self.ask(path)[1]["code"], "InvalidService")
-
-
 # The front and the back of what is shown, by names of colours.
 SHAPES = "route ground,other ground,arrow route,edge panel,focus panel,focus ground,start ground,end ground,via ground,route road"
 WORDS = "ink panel,ink ground,soft panel,soft ground,name ground,name road,fault fault-ground,ink hover,soft hover,on-mark start,on-mark end"

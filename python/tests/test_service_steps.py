@@ -119,18 +119,6 @@ def test_annotations(tmp_path: pathlib.Path) -> None:
     assert [[*leg["annotation"].values()] for leg in found["routes"][0]["legs"]] == [*map(list, rows)]
 
 
-def test_one_leg_by_a_place_between(tmp_path: pathlib.Path) -> None:
-    """It goes on at a place within a road, where no step begins, or turns round there."""
-    on, *_ = steps(tmp_path, crossing(), "-0.0005,0;-0.0003,0;0.0005,0", "&waypoints=0;2")
-    assert [each["location"] for each in on["intersections"]] == [[-0.0005, 0.0], [0.0, 0.0]]
-    there, back, _ = steps(tmp_path, crossing(), "-0.0005,0;-0.0003,0;-0.0007,0", "&waypoints=0;2")
-    assert (there["distance"], back["distance"]) == (22.24, 44.48)
-    assert back["maneuver"] == {
-        "type": "continue", "modifier": "uturn", "location": [-0.0003, 0.0], "bearing_before": 90, "bearing_after": 270
-    }
-    assert back["intersections"] == [{"location": [-0.0003, 0.0], "bearings": [270], "entry": [True], "in": 0, "out": 0}]
-
-
 @pytest.mark.parametrize("base, more, mode, side", [
     ("car", {}, "driving", "right"), ("car", {"driving_side": "left"}, "driving", "left"), ("bicycle", {}, "cycling", "right"),
     ("foot", {"driving_side": "left"}, "walking", "left"),
