@@ -188,12 +188,10 @@ def test_each_text_of_a_parameter(tmp_path: pathlib.Path) -> None:
 
 
 def rows_of(codes: Mapping[str, Sequence[str]]) -> list[tuple[str, str]]:
-    """Each text with its code."""
     return [(text, code) for code, texts in codes.items() for text in texts]
 
 
 def words_of(codes: Mapping[str, Sequence[str]]) -> list[tuple[str, str]]:
-    """Words for two places."""
     rows = [(f"{word};", code) for word, code in rows_of(codes) if word not in ("0", "10", "360,90")]
     return [*rows, *((f";{word}", code) for word, code in rows if code), (";;", "InvalidQuery"), (codes[""][0], "InvalidQuery")]
 

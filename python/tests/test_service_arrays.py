@@ -71,16 +71,12 @@ def test_numbers_are_those_of_std(digits, most):
     values = np.append(draw.integers(-most, most, 300), (0, most, -most, 1, -1))
     wanted = [value / 10**digits if digits else value for value in values.tolist()]
     is_null = draw.random(len(values)) < 0.2
-    assert number_texts(values, digits).array(0, len(values)) == "[" + ",".join(plain(value) for value in wanted) + "]"
+    shown = [np.format_float_positional(value, trim="0") if digits else str(value) for value in wanted]  # (none with an exponent)
+    assert number_texts(values, digits).array(0, len(values)) == f"[{','.join(shown)}]"
     found = json.loads(number_texts(values, digits, is_null).array(0, len(values)))
     assert found == [None if is_none else value for value, is_none in zip(wanted, is_null)]
     points = point_texts(values[:304].reshape(-1, 2), digits)
     assert [*map(json.loads, points.rows(np.arange(152)))] == np.reshape(wanted[:304], (-1, 2)).tolist()
-
-
-def plain(value):
-    """The shortest decimals of a number, without an exponent."""
-    return np.format_float_positional(value, trim="0") if isinstance(value, float) else str(value)
 
 
 @pytest.mark.parametrize("values, text", [

@@ -30,15 +30,15 @@ SEED, COUNT, FEW = 17, 10_000, 100
 NODES = 38
 HIGH = "0.0003,0.00001;0.0077,-0.00002"
 
-# What the names in templates stand for: one of these texts, which are templates.
-PARTS = {
+# What the names in templates stand for: one of these texts, which are templates, or what a function returns.
+PARTS: dict[str, tuple[str, ...] | Callable[["Draw"], object]] = {
     "get": ("/nearest/v1/$text/$place$query", "/$many/v1/$text/$places$query"), "many": ("route", "table", "trip", "match"),
     "places": ("$place;$place", "$place;$place;$place", "$place;$place;$place;$place"), "query": ("", "?$right", "?$right&format=json"),
     "right": ("hints=$text", "generate_hints=false", "skip_waypoints=true", "snapping=default"), "pair": ("from=$node&to=$node",),
     "nodes": ("/nodes/route", "/nodes/length"), "batch": ("/nodes/routes", "/nodes/lengths"), "few": tuple("123456789"),
-    "other_service": ("tile",), "site": ("cross-site", "same-site"), "upper": ("POST", "PUT", "DELETE", "PATCH", "OPTIONS"),
-    "line": ("_ibE_ibE", "??_ibE_ibE", "_ibE_ibE$few$few"), "type": (
-        "application/json", "application/x-ndjson", "application/JSONL", "application/x-ndjson; charset=utf-8"),
+    "site": ("cross-site", "same-site"), "upper": ("POST", "PUT", "DELETE", "PATCH", "OPTIONS"),
+    "line": ("_ibE_ibE", "??_ibE_ibE", "_ibE_ibE$few$few"),
+    "type": ("application/json", "application/x-ndjson", "application/JSONL", "application/x-ndjson; charset=utf-8"),
     # texts that are no numbers
     "bad": tuple((
         "nan NaN -nan inf -inf Infinity 1e999 -1e999 1e100 0x1A 1_0 + - --1 +-1 1..2 1.2.3 . 1e e5 1e+ 1e1.5 1d3 1f 1L one None null "
@@ -48,13 +48,7 @@ PARTS = {
     # surrogate, and a code point above U+10FFFF
     "escape": ("%FF", "%80", "%C3", "%C3%28", "%C0%AF", "%E2%82", "%ED%A0%80", "%F4%90%80%80", "1%FE", "%a0true"),
     "far": ("180.000001", "-181", "999", "1e99", "-9e9", "200.5e0", "18$few.$few", "-2$few$few"),
-}
-# Paths in which a place is none.
-AMONG = ("/nearest/v1/$text/{}$query", "/$many/v1/$text/{};$place$query", "/$many/v1/$text/$place;{}", "/$many/v1/$text/$places;{};$place")
-
-
-# What is drawn anew each time.
-DRAWN: dict[str, Callable[["Draw"], object]] = {
+    # what is drawn anew each time
     "text": lambda draw: "".join(draw.choices(string.ascii_lowercase, k=draw.randint(3, 12))),
     "place": lambda draw: f"{draw['degrees']},{draw.uniform(-0.0001, 0.0001):.6f}", "degrees": lambda draw: f"{draw.uniform(0, 0.008):.6f}",
     "node": lambda draw: draw.randint(1, NODES), "above": lambda draw: NODES + draw.randint(1, 999),
@@ -65,13 +59,16 @@ DRAWN: dict[str, Callable[["Draw"], object]] = {
     "fields": lambda draw: f"X-{draw['text']}: 1\r\n" * draw.randint(200, 900),
     "too_large": lambda draw: (4 << 20) + draw.randint(1, 10 ** draw.randint(1, 12)),
 }
+# Paths in which a place is none.
+AMONG = ("/nearest/v1/$text/{}$query", "/$many/v1/$text/{};$place$query", "/$many/v1/$text/$place;{}", "/$many/v1/$text/$places;{};$place")
 
 
 class Draw(random.Random):
     """Parts of requests, drawn anew for each name in a template, so that hardly any two requests are the same."""
 
     def __getitem__(self, name: str) -> str:
-        return self.fill(self.choice(PARTS[name])) if name in PARTS else str(DRAWN[name](self))
+        part = PARTS[name]
+        return str(part(self)) if callable(part) else self.fill(self.choice(part))
 
     def fill(self, template: str) -> str:
         return string.Template(template).substitute(self)  # type: ignore[arg-type]
@@ -145,7 +142,7 @@ GOING_ON = (
         "/$many/v1/$text", "/$many/v1/$text?steps=true", "/nearest/v1?$text=1", "/$many/v1?$text=1")),
     Kind(400, "InvalidUrl", "a profile that is none", tuple(f"/$many/v1/{profile}/$places$query" for profile in (
         "", "c%61r", "car!", "ca;r", "car,bike", "%00", "%FF", "(car)", "~", "car:1", "*", "$long_line"))),
-    Kind(400, "InvalidService", "a service that isn't there", ("/$other_service/v1/$text/$places$query",)),
+    Kind(400, "InvalidService", "a service that isn't there", ("/tile/v1/$text/$places$query",)),
     Kind(404, "InvalidUrl", "a path that is none", (
         "/$text", "/$text/v1/car/$places", "/Route/v1/car/$places", "//route/v1/car/$places", "/nodes/$text", "/nodes/length/?$pair",
         "/nodes?$pair", "/map/$text.js", "/map/../$text", "/%2e%2e/$text", "/map/roads/$few/x/0", "/map/roads/1/$few.0/0",

@@ -1,6 +1,4 @@
-"""OSRM's API: tables, gaps of traces, messages, and what is logged."""
-import json
-
+"""OSRM's API: tables, gaps of traces, messages, and options of the command."""
 import pytest
 from model.sphere import metres_between
 from reach_case import Road, prepared
@@ -45,7 +43,7 @@ def test_a_trace_with_a_gap(tmp_path, gaps, ways, stops, legs):
      "{road} of that bearing within 50.5 m of place 1, 9.5,47 (LON,LAT). {box} 1"),
     ("route/v1/car/9.5,47;9.5,47.1?radiuses=;0&bearings=90,9;", "{road} within 0 m of place 1, 9.5,47.1 (LON,LAT). {box} 1"),
     ("table/v1/car/9.5,47;9.5,47.1?radiuses=unlimited;0", "{road} within 0 m of place 1, 9.5,47.1 (LON,LAT). {box} 1"),
-    ("table/v1/car/9.5,47;9.5,47?bearings=;0,9&radiuses=;unlimited", "{road} of that bearing for place 1, 9.5,47 (LON,LAT). {box} 1"),
+    ("nearest/v1/car/9.5,47?bearings=0,9&radiuses=unlimited", "{road} of that bearing for place 0, 9.5,47 (LON,LAT). {box} 0"),
     ("route/v1/car/9.5,47;9.501,47;9.502,47;9.5,47?continue_straight=true", "there is no route from place 1 to place 2"),
     ("route/v1/car/9.5,47;9.501,47;9.502,47;9.5,47", "there is no route from place 1 to place 2"),
     ("route/v1/car/9.5,47;200,10", "place 1 is 200,10: {first}"),
@@ -98,10 +96,12 @@ class RequestTests(OsrmCase):
             before = self.value("queries_total")
             self.assertEqual(self.ask(f"/table/v1/car/{words}{more}")[0], 200)
             self.assertEqual(self.value("queries_total") - before, queries, more)
+        self.assertEqual([line for line in self.said if line.startswith("{")], [], "without an option there is no log")
 
     def test_options(self):
-        """Cells of a table, metres to a road, and the words that PROFILE may be; without --profile any will do."""
-        self.serve("--network", self.folder / "v", "--table-cells", "5", "--radius", "70", "--profile", "car", "--profile", "driving")
+        """Cells of a table, metres to a road, the words that PROFILE may be, which may be any without, and places in the log."""
+        words = ["--table-cells", "5", "--radius", "70", "--profile", "car", "--profile", "driving", "--log-places"]
+        self.serve("--network", self.folder / "v", *words)
         self.assertIn("no road within 70 m of place 0", self.ask("/nearest/v1/car/-0.0025,0.001")[1]["message"])
         self.good(f"/table/v1/car/{HIGH};0.001,0;0.002,0;0.003,0?destinations=1")
         for query in (";0.001,0", "?sources=0;1;1&destinations=0;0"):
@@ -114,19 +114,4 @@ class RequestTests(OsrmCase):
                 found = self.ask(f"/{service}/v1/{word}/{places}{query}")
                 self.assertEqual(found[0], status, found)
         self.assertEqual(found[1], {"code": "InvalidValue", "message": "PROFILE has to be one of car, driving"})
-
-    def test_log_without_places(self):
-        """A line for each request, without places and addresses unless --log-places."""
-        for words, are_named in ([], None), (["--access-log"], False), (["--log-places"], True):
-            with self.subTest(words=words):
-                self.serve("--network", self.folder / "v", *words)
-                self.good(f"/route/v1/car/{HIGH}")
-                self.good(f"/nearest/v1/car/{HIGH.partition(';')[0]}")
-                wanted = [] if are_named is None else ["/route", "/nearest"]
-                self.wait_for(lambda: len(self.logged()) >= len(wanted))
-                self.assertEqual([line["endpoint"] for line in self.logged()], wanted)
-                said = json.dumps(self.said)
-                self.assertEqual(["0.0003" in said, "127.0.0.1" in said.replace(f"http://127.0.0.1:{self.port}", "")], [bool(are_named)] * 2)
-
-    def logged(self):
-        return [json.loads(line) for line in self.said if line.startswith("{")]
+        self.wait_for(lambda: any('"/nearest"' in line and "-0.0025,0.001" in line and '"127.0.0.1"' in line for line in self.said))

@@ -66,7 +66,6 @@ class BrowserCase(ServiceCase):
         self.assertEqual((faults, [each for each in self.browser.asked if not each.startswith(own)]), ([], []))
 
     def steps(self, *wanted):
-        """Waits for steps of these texts."""
         texts = "[...document.querySelectorAll('#steps .text')].map(each => each.textContent)"
         self.browser.until(f"JSON.stringify({texts}) === JSON.stringify({json.dumps(wanted)})")
 
@@ -74,7 +73,6 @@ class BrowserCase(ServiceCase):
         return self.browser.value(f"document.getElementById('{name}').textContent")
 
     def keep(self, name):
-        """Stores a screenshot if that is requested."""
         if PICTURES:
             self.browser.picture(pathlib.Path(PICTURES) / f"{name}.png")
 
@@ -300,8 +298,6 @@ class ReachCase(BrowserCase):
 
 
 class ReachTests(ReachCase):
-    """Isochrones: a click, a link, numbers, a drag, the legend, a file, and the way back to routes."""
-
     def test_a_click_numbers_and_a_file(self):
         self.open()
         self.browser.value("document.querySelector('#modes [value=reach]').click()")

@@ -58,12 +58,6 @@ def test_a_crossing(tmp_path: pathlib.Path, forbidden: list[tuple[int, int]], en
         assert leg["annotation"]["nodes"] == nodes
 
 
-def test_a_turn_at_a_split_junction(tmp_path: pathlib.Path) -> None:
-    """A step begins at a turn onto a road of the same name, though from the west one may only go on there."""
-    _, turn, _ = steps(tmp_path, crossing((0, 1), north="High Street"), "-0.0005,0;0,0.0005")
-    assert turn["maneuver"]["type"] == "continue" and turn["maneuver"]["modifier"] == "left"
-
-
 def test_an_exit_by_two_arcs(tmp_path: pathlib.Path) -> None:
     """A road that leads to two copies of a junction is one exit of a roundabout."""
     places = [(-0.002, 0.0), (-0.001, 0.0), (0.0, -0.001), (0.001, 0.0), (0.0, -0.002), (0.002, 0.0)]
@@ -133,14 +127,6 @@ def test_what_a_profile_says_of_steps(tmp_path: pathlib.Path, base: str, more: d
     shown = [step for leg in found["legs"] for step in leg["steps"]]
     assert {(step["mode"], step["driving_side"]) for step in shown} == {(mode, side)}
     assert shown[0]["maneuver"]["bearing_after"] == (270 if side == "right" else 90)
-
-
-def test_a_place_at_the_end_of_an_arc(tmp_path: pathlib.Path) -> None:
-    """A route that has to come by a road up to its very end, and goes on, begins in the direction of the road."""
-    first, *_ = steps(tmp_path, crossing(), "0.0,0.0;0.0005,0", "&bearings=90,20;")
-    assert first["maneuver"]["bearing_after"] == 90 and first["intersections"][0]["bearings"] == [90]
-    first, second, *_ = steps(tmp_path, crossing(), "0.0,-0.00005;0.0005,0", "&bearings=0,20;")
-    assert (first["maneuver"]["bearing_after"], second["maneuver"]["modifier"]) == (0, "right")
 
 
 def test_files_without_a_side(tmp_path: pathlib.Path) -> None:

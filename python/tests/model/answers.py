@@ -8,18 +8,15 @@ from typing import Any
 from comparing import AnyOf, Contour, Holds, Line, Near, Others, Simplified, difference
 
 from . import matching
-from .network import Ambiguous, Network, Part, SnappedPoint
+from .network import Ambiguous, Network, SnappedPoint
 from .request import ANNOTATIONS, Request
 from .sphere import Point, along, clip, metres_between
-from .steps import near, steps
+from .steps import METRES, Leg, figures, near, steps
 
-# The roundings of metres and seconds, of metres to a point as it is shown, and of probabilities; and up to how many answers one is
-# compared with.
-METRES, SECONDS, STANDING, TRUST, MOST = 0.0065, 0.0015, 0.2, 1e-3, 256
-UNITS = {"duration": 1000, "distance": 100}
+# The roundings of metres to a point as it is shown, and of probabilities; and up to how many answers one is compared with.
+STANDING, TRUST, MOST = 0.2, 1e-3, 256
 TEXT = Holds("a text", lambda value: isinstance(value, str))
 SHAPES = {"true": ("Polygon", "MultiPolygon"), "false": ("LineString", "MultiLineString")}
-Leg = Sequence[Part]
 Points = Sequence[SnappedPoint]
 
 
@@ -37,16 +34,6 @@ def choices(options: Sequence[Sequence[Any]], most: int = MOST) -> Iterator[tupl
     if math.prod(map(len, options)) > most:
         raise Ambiguous
     return itertools.product(*options)
-
-
-def figures(network: Network, *legs: Leg) -> dict[str, Any]:
-    """The weight, duration and distance of legs together: a weight in seconds or metres where weights are these."""
-    rows, unit = [(network.arcs[arc], stop - begin, weight) for leg in legs for arc, begin, stop, weight in leg], network.unit
-    weight = sum(row[2] for row in rows) / UNITS.get(unit, 1)
-    seconds, metres = sum(arc.seconds * share for arc, share, _ in rows), sum(arc.metres * share for arc, share, _ in rows)
-    duration = Near(weight if unit == "duration" else seconds, SECONDS * len(legs)) if network.has_seconds else None
-    distance = Near(weight if unit == "distance" else metres, METRES * len(legs))
-    return {"weight": Near(weight, 0 if len(legs) == 1 else 0.001), "duration": duration, "distance": distance}
 
 
 def part_lines(network: Network, leg: Leg) -> list[list[Point]]:
@@ -71,9 +58,8 @@ def waypoints(network: Network, request: Request, **members: Points) -> dict[str
 
 
 def places_on_roads(network: Network, request: Request) -> list[SnappedPoint]:
-    """The points of roads that are nearest to the places."""
-    rows = zip(request.places, request.radiuses(), request.bearings(), request.curbs())
-    found = [network.snap(*each, request.value("snapping") == "any") for each in rows]
+    curbs, is_any = [word == "curb" for word in request.words("approaches")], request.value("snapping") == "any"
+    found = [network.snap(*each, is_any) for each in zip(request.places, request.radiuses(), request.bearings(), curbs)]
     refuse("NoSegment", None in found)
     return [point for point in found if point is not None]
 
@@ -167,7 +153,7 @@ def route_along(network: Network, request: Request, points: Points, ways: Sequen
         lines.append(leg_line(network, ends[0], leg, ends[1]))
         found = {"summary": "", "steps": [], **total}
         if request.has("steps"):
-            found["steps"] = shown = steps(network, ends, leg, part_lines(network, leg), form, figures)
+            found["steps"] = shown = steps(network, ends, leg, part_lines(network, leg), form)
             names = [*dict.fromkeys(step["name"] for step in shown if step["name"])] if isinstance(shown, list) else None
             found["summary"] = TEXT if names is None else ", ".join(names[:2])
         if request.annotations():
@@ -200,7 +186,8 @@ def annotation(network: Network, leg: Leg, names: Sequence[str], total: dict[str
         if is_long and len(found) == len(rows[name]) and (is_slow or name != "speed") and difference(found, rows[name]):
             return False
         if name in total:
-            return not found or bool(abs(sum(found) - total[name].value) <= 0.005 * len(found) + total[name].tolerance)
+            step = 0.005 if name == "distance" else 0.0006
+            return not found or bool(abs(sum(found) - total[name].value) <= step * len(found) + total[name].tolerance)
         known = {*rows["nodes"]} if name == "nodes" else {0}
         return name == "speed" or {*found} <= known and all(type(value) is int for value in found)
 
@@ -210,7 +197,7 @@ def annotation(network: Network, leg: Leg, names: Sequence[str], total: dict[str
 def nearest(network: Network, request: Request) -> Any:
     """The nearest points of roads, one of each edge, the nearest first, with the ids of the ends of its edge's first arc."""
     (place,), (radius,), (bearings,) = request.places, request.radiuses(), request.bearings()
-    rows = network.by_distance(place, bearings, request.curbs()[0], request.value("snapping") == "any")
+    rows = network.by_distance(place, bearings, request.value("approaches") == "curb", request.value("snapping") == "any")
     inside = itertools.takewhile(lambda row: row[0] <= radius, rows)
     points = [point for _, point in inside if point is not None][: int(request.value("number", "1"))]
     refuse("NoSegment", not points)

@@ -36,10 +36,6 @@ class Request(NamedTuple):
         pairs = [word.partition(",") for word in self.words("bearings")]
         return [(int(degrees), int(deviation)) if comma else None for degrees, comma, deviation in pairs]
 
-    def curbs(self) -> list[bool]:
-        """Whether each place has to be at the side of the road on which vehicles are."""
-        return [word == "curb" for word in self.words("approaches")]
-
     def annotations(self) -> list[str]:
         text = self.value("annotations", "false")
         return {"false": [], "true": [*ANNOTATIONS]}.get(text, text.split(","))

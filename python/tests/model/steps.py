@@ -1,7 +1,7 @@
 """The steps of a leg: one begins at another name or mode, at a turn above 45 degrees at a junction, and at a roundabout."""
 import functools
 import itertools
-from collections.abc import Callable, Sequence
+from collections.abc import Sequence
 from typing import Any
 
 from comparing import Direction, Holds, Intersection, Line, Near
@@ -12,6 +12,9 @@ from .sphere import Point, along, bearing, metres_between
 # The least degrees of each modifier but the first. Rounding decides so near to them, and about the direction of so short a line.
 LIMITS, NEAR_LIMIT, SHORT = (20, 45, 120, 170), 2.1, 2.0
 MODIFIERS = ("straight", "slight {}", "{}", "sharp {}", "uturn")
+# The roundings of metres and of seconds.
+METRES, SECONDS, UNITS = 0.0065, 0.0015, {"duration": 1000, "distance": 100}
+Leg = Sequence[Part]
 NOWHERE = Arc(0, 0, 0, 0.0, 0.0, ())
 
 
@@ -33,7 +36,6 @@ def modifier_of(angle: float) -> str:
 
 
 def is_along(network: Network, part: Part) -> bool:
-    """Whether a part leads along its edge."""
     return network.edges[network.edge_of[part[0]]].arcs[part[0]]
 
 
@@ -47,6 +49,16 @@ def mode(arc: Arc) -> str:
 
 def is_junction(network: Network, node: int) -> bool:
     return len({network.edge_of[number] for number, arc in enumerate(network.arcs) if node in arc[:2]}) >= 3
+
+
+def figures(network: Network, *legs: Leg) -> dict[str, Any]:
+    """The weight, duration and distance of legs together: a weight in seconds or metres where weights are these."""
+    rows, unit = [(network.arcs[arc], stop - begin, weight) for leg in legs for arc, begin, stop, weight in leg], network.unit
+    weight = sum(row[2] for row in rows) / UNITS.get(unit, 1)
+    seconds, metres = sum(arc.seconds * share for arc, share, _ in rows), sum(arc.metres * share for arc, share, _ in rows)
+    duration = Near(weight if unit == "duration" else seconds, SECONDS * len(legs)) if network.has_seconds else None
+    distance = Near(weight if unit == "distance" else metres, METRES * len(legs))
+    return {"weight": Near(weight, 0 if len(legs) == 1 else 0.001), "duration": duration, "distance": distance}
 
 
 def directions(lines: Sequence[list[Point]], step: int) -> list[float]:
@@ -72,7 +84,7 @@ def way_of(network: Network, part: Part, line: list[Point]) -> list[Point]:
     return [whole[number - 1], whole[number]]
 
 
-def intersection(network: Network, leg: Sequence[Part], number: int, place: Point, ways: tuple[float, float]) -> Intersection:
+def intersection(network: Network, leg: Leg, number: int, place: Point, ways: tuple[float, float]) -> Intersection:
     """The intersection before a part of a leg, by the bearings of the roads by which it comes and goes on. A road is an edge, and
     whether it begins there; it may be entered if an arc leads into it by which one may go on from the arc before."""
     before, behind = leg[number - 1 : number + 1]
@@ -88,7 +100,7 @@ def intersection(network: Network, leg: Sequence[Part], number: int, place: Poin
     return Intersection(near(place), [*roads.values()], roads[into][0], ways[1])
 
 
-def is_begin(network: Network, leg: Sequence[Part], number: int, turn: float) -> bool:
+def is_begin(network: Network, leg: Leg, number: int, turn: float) -> bool:
     """Whether a step begins with a part of a leg behind the first one, by the turn before it."""
     *_, before, arc = arcs = [network.arcs[part[0]] for part in leg[: number + 1]]
     is_turn = abs(turn) > 45 and is_junction(network, arc.start)
@@ -112,10 +124,7 @@ def maneuver(network: Network, numbers: Sequence[int], named: int, angle: float)
     return {"type": "roundabout", "modifier": modifier_of(angle), **exits}
 
 
-def steps(
-    network: Network, ends: tuple[SnappedPoint, SnappedPoint], leg: Sequence[Part], lines: Sequence[list[Point]], form: str,
-    figures: Callable[[Network, Sequence[Part]], dict[str, Any]]
-) -> Any:
+def steps(network: Network, ends: tuple[SnappedPoint, SnappedPoint], leg: Leg, lines: Sequence[list[Point]], form: str) -> Any:
     """The steps of a leg whose parts have these lines; of what rounding decides about only that there are some."""
     arcs, ways, found = [network.arcs[part[0]] for part in leg], [*map(functools.partial(way_of, network), leg, lines)], []
     first, last = directions(ways, 1), directions(ways, -1)
@@ -124,7 +133,7 @@ def steps(
         return unsure
     begins = [number for number in range(len(leg)) if not number or is_begin(network, leg, number, turned(turns[number - 1]))]
 
-    def add(turn: dict[str, Any], sides: Any, named: Arc, mode: str, leg: Sequence[Part], line: list[Point], passed: Any) -> None:
+    def add(turn: dict[str, Any], sides: Any, named: Arc, mode: str, leg: Leg, line: list[Point], passed: Any) -> None:
         texts = {"ref": "; ".join(map(str.strip, named.ref.split(";")))} if named.ref else {}
         texts |= {"destinations": ", ".join(map(str.strip, named.destination.split(";")))} if named.destination else {}
         shown = {**turn, "location": near(line[0]), "bearing_before": sides[0], "bearing_after": sides[1]}
