@@ -60,7 +60,7 @@ def write_graph(
 ) -> None:
     """Writes a .gr file: the comments, a line each, the problem line, and a line for each arc. `arcs` are three lists or arrays, of
     which parts are in memory as text: the nodes from and to, from 0, and the weights."""
-    file.writelines(f"c {comment}\n".encode() for comment in comments)
+    file.writelines(f"c {comment}\n".encode("utf-8", "replace") for comment in comments)
     file.write(b"p sp %d %d\n" % (nodes, len(arcs[0])))
     for low in range(0, len(arcs[0]), ROWS_AT_ONCE):
         parts = [column[low : low + ROWS_AT_ONCE] for column in arcs]

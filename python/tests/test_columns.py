@@ -4,6 +4,7 @@ import csv
 import gzip
 import io
 import json
+import re
 import subprocess
 import tracemalloc
 
@@ -12,6 +13,7 @@ import pytest
 from tool_case import TOOLS, ToolCase
 
 import domethyme
+from domethyme.csv_tables import open_table
 from domethyme.dimacs import read_graph
 from domethyme.network import column_file, from_tables, net_file
 from domethyme.network.columns import NO_OSM, OF_NODES
@@ -26,92 +28,60 @@ ARCS = "from,to,kmh\ndepot,shop,50\nshop,depot,50\nshop,farm,30\n"
 
 
 class ColumnTests(ToolCase):
-    def made(self, nodes=NODES, arcs=ARCS, *words):
-        """What the tool says, and the graph."""
-        self.write("nodes.csv", nodes)
-        self.write("arcs.csv", arcs)
-        said = self.run_tool("to_network", "nodes.csv", "arcs.csv", "net", *words).stderr
-        return said, read_graph(self.folder / "net.gr")
-
-    def test_columns_that_are_missing(self):
-        for nodes, arcs, says in [
-            ("lon,Lon,lat\n0,0,0\n", ARCS, "nodes.csv, row 1: has the columns lon and Lon, of which each may be lon: rename one"),
-            ("lng,x,lat\n0,0,0\n", ARCS, "nodes.csv, row 1: has the columns lng and x, of which each may be lon"),
-            ("node,place\na,b\n", ARCS, "nodes.csv, row 1: has no columns lon, lat; its columns are node, place"),
-            (NODES, "a,b\n1,2\n", "arcs.csv, row 1: has no columns from, to; its columns are a, b"),
-            (NODES, "", "arcs.csv: is empty"),
-            ("lon,lat\n0,0\n0.001,0\n", ARCS, "arcs.csv, row 2: from 'depot' is not a number, and nodes.csv has no column node, so its "
-             "nodes are numbered by rows; its columns are lon, lat"),
-        ]:
-            self.write("nodes.csv", nodes)
-            self.write("arcs.csv", arcs)
-            with self.subTest(says=says):
-                self.assert_refused("to_network", "nodes.csv", "arcs.csv", "other", says=says)
-        self.write("trips.csv", "from_lon,From_Lat,to_lon\n")
-        self.made()
-        says = "has no columns from_lat, to_lat; its columns are from_lon, From_Lat, to_lon: is it From_Lat for from_lat, From_Lat for to_lat?"
-        self.assert_refused("nearest", "net", "trips.csv", says=says)
+    def setUp(self):
+        super().setUp()
+        self.write("nodes.csv", NODES)
+        self.write("arcs.csv", ARCS)
+        self.write("trips.csv", "from_lon,from_lat,to_lon,to_lat\n0,0,0.001,0.002\n")
+        self.run_tool("to_network", "nodes.csv", "arcs.csv", "net", "--tables")
 
     def test_keys_come_back(self):
         """In the package, in the tables and answers of the tools, and in tables that are written."""
-        self.made()
         domethyme.prepare(self.folder / "net.gr", self.folder / "net.rch", workers=1).close()
         network = domethyme.Network(self.folder / "net")
-        keys = network.keys()
-        self.assertEqual([keys.key(node) for node in range(3)], ["depot", "shop", "farm"])
-        self.assertEqual(network.nodes_frame()["key"].tolist(), ["depot", "shop", "farm"])
-        with domethyme.Hierarchy(self.folder / "net.rch", keys=keys, network=network) as hierarchy:
-            self.assertEqual(
-                (hierarchy.nearest(0.001, 0.0019)[0], hierarchy.route("depot", "farm").nodes),
-                ("farm", ["depot", "shop", "farm"]),
-            )
-        self.write("trips.csv", "from_lon,from_lat,to_lon,to_lat\n0,0,0.001,0.002\n")
+        with domethyme.Hierarchy(self.folder / "net.rch", keys=network.keys(), network=network) as hierarchy:
+            self.assertEqual(hierarchy.nearest(0.001, 0.0019)[0], "farm")
         self.run_tool("nearest", "net", "trips.csv", "--snapped", "snapped.csv", "-o", "pairs")
-        row = next(csv.DictReader(io.StringIO((self.folder / "snapped.csv").read_text())))
-        self.assertEqual((row["from_key"], row["to_key"], row["to_node"]), ("depot", "farm", "3"))
         self.write("answers", self.run_program([domethyme.find_program(), "route", "net.rch", "pairs"]).stdout)
         for words in ((), ("--trips", "snapped.csv")):
-            found = json.loads(self.run_tool("to_geojson", "net", "answers", "--format", "lines", *words).stdout)["properties"]
-            self.assertEqual((found["from_node"], found["from_key"], found["to_key"]), (1, "depot", "farm"))
-            table = next(
-                csv.DictReader(io.StringIO(self.run_tool("to_geojson", "net", "answers", "--format", "csv", *words).stdout))
-            )
-            self.assertEqual((table["from_key"], table["to_key"]), ("depot", "farm"))
+            asked = "to_geojson", "net", "answers", *words, "--format"
+            lines, table = (self.run_tool(*asked, form).stdout for form in ("lines", "csv"))
+            for found in (json.loads(lines)["properties"], next(csv.DictReader(io.StringIO(table)))):
+                self.assertEqual((str(found["from_node"]), found["from_key"], found["to_key"]), ("1", "depot", "farm"))
         self.write("wrong.csv", (self.folder / "snapped.csv").read_text().replace("depot", "shop"))
-        self.assert_refused(
-            "to_geojson", "net", "answers", "--trips", "wrong.csv", "-o", "out",
-            says="has from_key 'shop' where the answer has depot"
-        )
-        self.run_tool("to_network", "nodes.csv", "arcs.csv", "tables", "--tables")
-        self.assertEqual(
-            (self.folder / "tables.nodes.csv").read_text().splitlines()[:2],
-            ["node,osm,lon,lat,ends,key", "1,,0.0000000,0.0000000,,depot"],
-        )
-        self.assertEqual(
-            (self.folder / "tables.nodes.csvt").read_text(), '"Integer","Integer64","CoordX","CoordY","String","String"\n'
-        )
-        self.run_tool("to_network", "tables.nodes.csv", "tables.arcs.csv", "again")
-        (self.folder / "tables.net").unlink()
-        for name in ("tables", "again"):
+        says = "has from_key 'shop' where the answer has depot"
+        self.assert_refused("to_geojson", "net", "answers", "--trips", "wrong.csv", "-o", "out", says=says)
+        rows = (self.folder / "net.nodes.csv").read_text().splitlines()
+        self.assertEqual(rows[:2], ["node,osm,lon,lat,ends,key", "1,,0.0000000,0.0000000,,depot"])
+        kinds = '"Integer","Integer64","CoordX","CoordY","String","String"\n'
+        self.assertEqual((self.folder / "net.nodes.csvt").read_text(), kinds)
+        self.run_tool("to_network", "net.nodes.csv", "net.arcs.csv", "again")
+        (self.folder / "net.net").unlink()
+        for name in ("net", "again"):
             self.assertEqual(domethyme.Network(self.folder / name).keys().node("farm"), 2)
 
     def test_files_of_gzip(self):
         """Tables, DIMACS files and answers."""
-        wanted = self.made()[1]
-        for name in ("nodes.csv", "arcs.csv"):
-            (self.folder / f"{name}.gz").write_bytes(gzip.compress((self.folder / name).read_bytes()))
-        self.run_tool("to_network", "nodes.csv.gz", "arcs.csv.gz", "packed")
-        self.assertEqual((self.folder / "packed.net").read_bytes(), (self.folder / "net.net").read_bytes())
-        (self.folder / "x.co.gz").write_bytes(gzip.compress(b"p aux sp co 3\nv 1 0 0\nv 2 1000 0\nv 3 1000 2000\n"))
-        (self.folder / "x.gr.gz").write_bytes(gzip.compress((self.folder / "net.gr").read_bytes()))
-        self.run_tool("to_network", "x.co.gz", "x.gr.gz", "dimacs")
-        self.assertEqual(read_graph(self.folder / "dimacs.gr"), wanted)
-        self.assertEqual(read_graph(self.folder / "x.gr.gz"), wanted)
-        self.write("trips.csv", "from_lon,from_lat,to_lon,to_lat\n0,0,0.001,0.002\n")
+        whole = {name: (self.folder / name).read_bytes() for name in ("nodes.csv", "arcs.csv", "net.gr")}
+        whole |= {"x.co": b"p aux sp co 3\nv 1 0 0\nv 2 1000 0\nv 3 1000 2000\n", "x.gr": whole["net.gr"]}
+        whole |= {"answers": b"r 1 2 8006 1 1 2\n"}
+        for name, text in whole.items():
+            (self.folder / f"{name}.gz").write_bytes(gzip.compress(text))
+        for tables, out in ((("nodes.csv", "arcs.csv"), "packed"), (("x.co", "x.gr"), "dimacs")):
+            self.run_tool("to_network", *(f"{name}.gz" for name in tables), out)
+            self.assertEqual((self.folder / f"{out}.gr").read_bytes(), whole["net.gr"])
+        self.assertEqual(read_graph(self.folder / "x.gr.gz"), read_graph(self.folder / "net.gr"))
         self.assertIn("q 1 3\n", self.run_tool("nearest", "x.co.gz", "trips.csv").stdout)
-        (self.folder / "answers").write_bytes(gzip.compress(b"r 1 2 8006 1 1 2\n"))
         for network in ("net", "x.co.gz"):
-            self.assertIn('"length":8006', self.run_tool("to_geojson", network, "answers").stdout)
+            self.assertIn('"length":8006', self.run_tool("to_geojson", network, "answers.gz").stdout)
+
+
+def test_columns_that_are_nearly_there(tmp_path):
+    (tmp_path / "trips.csv").write_text("from_lon,From_Lat,to_lon\n")
+    says = "its columns are from_lon, From_Lat, to_lon: is it From_Lat for from_lat, From_Lat for to_lat?"
+    with pytest.raises(domethyme.NetworkError, match=re.escape(f"trips.csv, row 1: has no columns from_lat, to_lat; {says}")):
+        with open_table(tmp_path / "trips.csv", ("from_lon", "from_lat", "to_lon", "to_lat")):
+            pass
 
 
 @pytest.mark.parametrize("nodes, arcs, unused", [
@@ -135,29 +105,46 @@ def test_names_of_columns(tmp_path, nodes, arcs, unused):
 
 
 @pytest.mark.parametrize("nodes, arcs, says", [
-    ("lon,lat\n0,0\n0.001,0\n", "from,to,weight\n1,3,1\n", "arcs, row 2: to 3 isn't from 1 to 2"),
-    ("lon,lat\n0,0\n0.001,0\n", "from,to,weight\n2,1,1\n0,2,1\n", "arcs, row 3: from 0 isn't from 1 to 2"),
-    ("node,lon,lat,key\na,0,0,x\nb,0,0,x\n", "", "nodes, row 3: key 'x' comes twice"),
-    *((f"lon,lat\n{place}\n", "", f"nodes, row 2: {says}") for place, says in (
-        ("180.1,0", "lon '180.1' isn't from -180 to 180"), ("-180.1,0", "lon '-180.1' isn't from -180 to 180"),
-        ("0,90.1", "lat '90.1' isn't from -90 to 90"), ("0,-90.1", "lat '-90.1' isn't from -90 to 90"))),
-    (NODES, "from,to,weight\ndepot,shop,-1\n", "arcs, row 2: weight -1 isn't from 0 to 4294967295"),
-    (f"lon,lat,osm\n0,0,{MOST}\n0,0,-{MOST + 1}\n", "", f"nodes, row 3: osm -{MOST + 1} isn't from -{MOST} to {MOST}"),
-    (NODES, ARCS.replace(",50", ",-1"), "arcs, row 2: kmh '-1' isn't from 0 to 1e+12; another row is refused too"),
-    (NODES, ARCS.replace("0\n", "x\n"), "arcs, row 2: kmh '5x' is not a number; 2 other rows are refused too"),
-    (NODES, "from,to,kmh,oneway\ndepot,shop,50,x\n", "arcs, row 2: oneway 'x' is none of 1, yes, -1, 0, no"),
-    *((NODES, f'from,to,kmh,wkt\ndepot,shop,5,"LINESTRING ({line})"\n', f"arcs, row 2: {says}") for line, says in (
-        ("0 0, 0.001 0.01", "its line ends 1,112 m from its node: are from and to swapped?"),
-        ("0 0, 0 -90.1, 0.001 0", "WKT 'LINESTRING (0 0, 0 -90.1, 0.001 0)' has what are no degrees"),
-        ("0 0, 180.1 0, 0.001 0", "WKT 'LINESTRING (0 0, 180.1 0, 0.001 0)' has what are no degrees"),
-    )),
+    *((nodes, ARCS, f"nodes{says}") for nodes, says in (
+        ("lon,Lon,lat\n0,0,0\n", ", row 1: has the columns lon and Lon, of which each may be lon: rename one"),
+        ("lng,x,lat\n0,0,0\n", ", row 1: has the columns lng and x, of which each may be lon: rename one"),
+        ("node,place\na,b\n", ", row 1: has no columns lon, lat; its columns are node, place"),
+        ("lon,lat\n", ": has 0 nodes, and a network has from 1 to 33554432"),
+        ("node,lon,lat\na,0,0\n\na,1,1\n", ", row 4: node 'a' comes twice"),
+        ("node,lon,lat,key\na,0,0,x\nb,0,0,x\n", ", row 3: key 'x' comes twice"),
+        ("lon,lat,ends\n0,0,both\n", ", row 2: ends 'both' is none of from, to, no"),
+        (f"lon,lat,osm\n0,0,{MOST}\n0,0,-{MOST + 1}\n", f", row 3: osm -{MOST + 1} isn't from -{MOST} to {MOST}"),
+        *((f"lon,lat\n{place}\n", f", row 2: {says}") for place, says in (
+            ("180.1,0", "lon '180.1' isn't from -180 to 180"), ("-180.1,0", "lon '-180.1' isn't from -180 to 180"),
+            ("0,90.1", "lat '90.1' isn't from -90 to 90"), ("0,-90.1", "lat '-90.1' isn't from -90 to 90"))))),
+    *(("lon,lat\n0,0\n0.001,0\n", arcs, f"arcs, row {says}") for arcs, says in (
+        ("from,to,weight\n1,3,1\n", "2: to 3 isn't from 1 to 2"), ("from,to,weight\n2,1,1\n0,2,1\n", "3: from 0 isn't from 1 to 2"),
+        (ARCS, "2: from 'depot' is not a number, and {}/nodes has no column node, so its nodes are numbered by rows; "
+         "its columns are lon, lat; 2 other rows are refused too"))),
+    *((NODES, arcs, f"arcs{says}") for arcs, says in (
+        ("", ": is empty"), ("a,b\n1,2\n", ", row 1: has no columns from, to; its columns are a, b"),
+        ("from,to\n", ": has 0 arcs, and a network has from 1 to 134217728"),
+        ("from,to,weight\ndepot,office,1\n", ", row 2: to 'office' isn't in {}/nodes"),
+        ("from,to,weight\ndepot,shop,-1\n", ", row 2: weight -1 isn't from 0 to 4294967295"),
+        ("from,to,weight\ndepot,shop,4294967296\n", ", row 2: weight 4294967296 isn't from 0 to 4294967295"),
+        ("from,to,kmh\ndepot,shop,0\n", ", row 2: kmh is 0"),
+        ("from,to,seconds\ndepot,shop,1\nshop,depot,1e9\n", ", row 3: would weigh more than 4294967295"),
+        (ARCS.replace(",50", ",-1"), ", row 2: kmh '-1' isn't from 0 to 1e+12; another row is refused too"),
+        (ARCS.replace("0\n", "x\n"), ", row 2: kmh '5x' is not a number; 2 other rows are refused too"),
+        ("from,to,kmh,oneway\ndepot,shop,50,x\n", ", row 2: oneway 'x' is none of 1, yes, -1, 0, no"),
+        ("from,to,weight,WKT\ndepot,shop,1,POINT (0 0)\n", ", row 2: WKT 'POINT (0 0)' is no line"),
+        *((f'from,to,kmh,wkt\ndepot,shop,5,"LINESTRING ({line})"\n', f", row 2: {says}") for line, says in (
+            ("0 0, 0.001 0.01", "its line ends 1,112 m from its node: are from and to swapped?"),
+            ("0.01 0, 0.001 0", "its line ends 1,112 m from its node: are from and to swapped?"),
+            *((line, f"WKT 'LINESTRING ({line})' has what are no degrees")
+              for line in ("0 0, 0 -90.1, 0.001 0", "0 0, 180.1 0, 0.001 0", "0 0, 0 inf", "0 0, nan 0, 1 0")))))),
 ])
 def test_rows_that_are_refused(tmp_path, nodes, arcs, says):
     (tmp_path / "nodes").write_text(nodes)
     (tmp_path / "arcs").write_text(arcs)
     with pytest.raises(domethyme.NetworkError) as refused:
         from_tables.read_arcs(tmp_path / "arcs", from_tables.read_nodes(tmp_path / "nodes"))
-    assert str(refused.value) == f"{tmp_path}/{says}"
+    assert str(refused.value) == f"{tmp_path}/{says}".replace("{}", str(tmp_path))
 
 
 def test_kinds_of_roads():

@@ -8,7 +8,7 @@ from scipy.sparse import coo_matrix
 from scipy.sparse.csgraph import connected_components
 
 from .columns import ENDS
-from .groups import Ints, rows_of_groups
+from .groups import Ints, mask, rows_of_groups
 from .net_file import ArcArrays, NodeArrays
 
 
@@ -40,8 +40,9 @@ def keep(nodes: NodeArrays, arcs: ArcArrays, kept: NDArray[np.bool_]) -> tuple[N
 
 def islands(arcs: ArcArrays, kept: NDArray[np.bool_]) -> list[str]:
     """A line that says how many nodes aren't of those that are kept, if any."""
-    alone, left = len(kept) - len(np.union1d(arcs.columns["arc_from"], arcs.columns["arc_to"])), len(kept) - int(kept.sum())
-    return [f"{int(kept.sum())} of {len(kept)} nodes reach one another, and {left} don't, of which {alone} have no arc"] if left else []
+    has_arc, left = mask(len(kept), arcs.columns["arc_from"], arcs.columns["arc_to"]), int((~kept).sum())
+    alone = int((~kept & ~has_arc).sum())
+    return [f"{len(kept) - left} of {len(kept)} nodes reach one another, and {left} don't, of which {alone} have no arc"] if left else []
 
 
 def quartiles(arcs: ArcArrays) -> list[str]:

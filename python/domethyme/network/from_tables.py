@@ -233,7 +233,9 @@ def read_arcs(
     """The arcs of a table of this form, or of a .gr file. Those without a weight have milliseconds (`time`) or centimetres (`length`).
     `say` gets a line for what may be meant otherwise. Raises NetworkError for the first row that is refused, with the number of others."""
     if os.fspath(path).endswith((".gr", ".gr.gz")):
-        return straight_arcs(*read_gr(path, len(nodes)), nodes.arrays)
+        read = read_gr(path, len(nodes))
+        need_arcs(len(read[0]), path)
+        return straight_arcs(*read, nodes.arrays)
     roads = RoadRows(nodes, weight)
     with open_table(path, (), form) as rows:
         take_columns(rows, NAMES_OF_ARCS, [name.replace("WKT", "wkt") for name in needed], say)
@@ -243,8 +245,7 @@ def read_arcs(
             except NetworkError as error:
                 roads.refused[row] = error
     (of_rows, starts, stops, of_texts, *plain), given, begins, points = roads.arcs(path)
-    if not 0 < len(starts) <= MAX_LINES:
-        raise NetworkError(f"has {len(starts)} arcs, and a network has from 1 to {MAX_LINES}", path)
+    need_arcs(len(starts), path)
     places = nodes.arrays.places
     straight = great_circle_metres(*(unit_vectors(*places[each].T / UNITS) for each in (starts, stops)))
     for is_doubted, says in doubts(given, straight, weight):
@@ -263,6 +264,12 @@ def read_arcs(
         "arc_row": of_texts, **{f"arc_{name}": values for name, values in zip(PLAIN, plain)},
     }
     return ArcArrays(columns, list(roads.known), begins, points)
+
+
+def need_arcs(count: int, path: StrPath) -> None:
+    """Raises NetworkError where a network can't have so many arcs."""
+    if not 0 < count <= MAX_LINES:
+        raise NetworkError(f"has {count} arcs, and a network has from 1 to {MAX_LINES}", path)
 
 
 def doubt_rows(of_rows: Ints, columns: Sequence[NDArray[Any]], path: StrPath, say: Say) -> None:
@@ -383,7 +390,8 @@ def read_co(path: StrPath) -> NDArray[np.int32]:
     if rows is not None:
         rows = rows[np.argsort(rows[:, 0])]
         is_each = (rows[:, 0] == np.arange(1, len(rows) + 1)).all()
-        if is_each and (np.abs(rows[:, 1:]) <= (180_000_000, 90_000_000)).all():
+        most = np.array((180_000_000, 90_000_000))
+        if is_each and ((rows[:, 1:] >= -most) & (rows[:, 1:] <= most)).all():
             return (rows[:, 1:] * (UNITS // 1_000_000)).astype(np.int32)
     return to_units(np.array(read_coordinates(path)))
 
@@ -395,9 +403,11 @@ def read_coordinates(path: StrPath) -> list[tuple[float, float]]:
         if fields[0] == b"p" and places is None:
             if fields[1:-1] != [b"aux", b"sp", b"co"]:
                 raise NetworkError("is no problem line `p aux sp co NUMBER`", path, row)
-            places = [None] * parse_int(fields[-1], "the number", path, row, 0, MAX_NODES)
+            places = [None] * parse_int(fields[-1], "the number of nodes", path, row, 1, MAX_NODES)
         elif fields[0] == b"v" and places is not None and len(fields) == 4:
             node = parse_int(fields[1], "node", path, row, 1, len(places))
+            if places[node - 1] is not None:
+                raise NetworkError(f"node {node} comes twice", path, row)
             lon = parse_int(fields[2], "x", path, row, -180_000_000, 180_000_000) / 1e6
             places[node - 1] = lon, parse_int(fields[3], "y", path, row, -90_000_000, 90_000_000) / 1e6
         else:

@@ -1,8 +1,9 @@
 """A network as its tables have it, shortest paths between nodes, and places on roads with the graph that is split there."""
 import functools
 import heapq
-from collections.abc import Callable, Collection, Iterable, Iterator, Mapping, Sequence
-from typing import NamedTuple
+from collections.abc import Collection, Iterable, Iterator, Mapping, Sequence
+from itertools import pairwise
+from typing import Any, NamedTuple
 
 from .sphere import EARTH_RADIUS, Point, along, bearing, interpolate, metres_between, metres_left, nearest_on_segment
 
@@ -10,6 +11,9 @@ from .sphere import EARTH_RADIUS, Point, along, bearing, interpolate, metres_bet
 END_TOLERANCE, METRES_TOLERANCE, EQUAL, BEARING_TOLERANCE = 0.005, 2e-6, 1e-8, 1.0
 # So many shortest paths are compared; and a number above those of a path's arcs.
 MOST_PATHS, MANY = 100, 1 << 20
+# A part of an arc that is driven: the arc, the shares between which it is, and the weight.
+Part = tuple[int, float, float, int]
+Bearings = tuple[int, int] | None
 
 
 class Ambiguous(Exception):
@@ -66,13 +70,8 @@ class SnappedPoint(NamedTuple):
     arcs: frozenset[int] | None = None
 
 
-# A part of an arc that is driven: the arc, the shares between which it is, and the weight.
-Part = tuple[int, float, float, int]
-
-
 class Network:
-    """nodes, arcs: the rows of the tables; forbidden: pairs of arcs of which the second may not follow on the first; is_left: whether
-    vehicles are on the left."""
+    """The rows of the tables, pairs of arcs of which the second may not follow the first, and whether vehicles are on the left."""
 
     def __init__(
         self, nodes: Iterable[Node], arcs: Iterable[Arc], forbidden: Collection[tuple[int, int]] = (), is_left: bool = False
@@ -85,11 +84,11 @@ class Network:
         self.edges = list(known.values())
         self.edge_of = {arc: edge for edge, each in enumerate(self.edges) for arc in each.arcs}
 
-    def is_ferry(self, edge: int) -> bool:
-        return all(self.arcs[arc].highway == "ferry" for arc in self.edges[edge].arcs)
-
     def __repr__(self) -> str:
         return f"Network({self.nodes}, {self.arcs}, {set(self.forbidden)})"
+
+    def is_ferry(self, edge: int) -> bool:
+        return all(self.arcs[arc].highway == "ferry" for arc in self.edges[edge].arcs)
 
     @functools.cached_property
     def has_seconds(self) -> bool:
@@ -98,9 +97,9 @@ class Network:
     @functools.cached_property
     def unit(self) -> str:
         """What weights are: `duration` (milliseconds), `distance` (centimetres), or `weight` for anything else."""
-        figures = {"duration": [1000 * arc.seconds for arc in self.arcs], "distance": [100 * arc.metres for arc in self.arcs]}
-        for name, column in figures.items():
-            if any(column) and all(abs(arc.weight - figure) <= 1.01 for arc, figure in zip(self.arcs, column)):
+        for name, factor, column in (("duration", 1000, "seconds"), ("distance", 100, "metres")):
+            figures = [factor * getattr(arc, column) for arc in self.arcs]
+            if any(figures) and all(abs(arc.weight - figure) <= 1.01 for arc, figure in zip(self.arcs, figures)):
                 return name
         return "weight"
 
@@ -112,10 +111,8 @@ class Network:
     @functools.cached_property
     def followers(self) -> list[list[int]]:
         """The arcs that may follow on each."""
-        return [
-            [other for other, row in enumerate(self.arcs) if row.start == arc.end and (number, other) not in self.forbidden]
-            for number, arc in enumerate(self.arcs)
-        ]
+        rows = [[other for other, row in enumerate(self.arcs) if row.start == arc.end] for arc in self.arcs]
+        return [[other for other in some if (number, other) not in self.forbidden] for number, some in enumerate(rows)]
 
     @functools.cached_property
     def turned(self) -> "Network":
@@ -128,76 +125,65 @@ class Network:
 
     # Between nodes
 
-    def search(self, starts: Mapping[int, int]) -> dict[int, tuple[int, int]]:
-        """The length of a shortest path to each node from the nearest of several, each with what is added there, and the least
-        number of its arcs."""
-        found = cheapest(((added * MANY, node) for node, added in starts.items()), lambda node: (
-            (arc.weight * MANY + 1, arc.end) for arc in self.arcs if arc.start == node
-        ))
-        return {node: divmod(cost, MANY) for node, cost in found.items()}
+    def costs(self, starts: Mapping[int, int]) -> dict[int, int]:
+        """The length of a shortest path to each node, from some with what is added there, times MANY, and the fewest arcs."""
+        steps = [[(arc.weight * MANY + 1, arc.end) for arc in self.arcs if arc.start == node] for node in range(len(self.nodes))]
+        return cheapest(((added * MANY, node) for node, added in starts.items()), steps)
 
     def lengths(self, starts: Mapping[int, int]) -> dict[int, int]:
-        return {node: length for node, (length, _) in self.search(starts).items()}
+        return {node: cost // MANY for node, cost in self.costs(starts).items()}
 
     def fewest_arcs(self, source: int, target: int) -> int | None:
-        return self.search({source: 0}).get(target, (0, None))[1]
+        cost = self.costs({source: 0}).get(target)
+        return None if cost is None else cost % MANY
 
     def is_path(self, nodes: Sequence[int], source: int, target: int, length: int) -> bool:
         """Whether nodes lead from one to another, by lightest arcs that weigh so much together."""
-        steps = [self.lightest(*step) for step in zip(nodes, nodes[1:])]
-        ends = nodes[0], nodes[-1]
+        steps, ends = [self.lightest(*step) for step in pairwise(nodes)], (nodes[0], nodes[-1])
         return ends == (source, target) and all(steps) and sum(self.arcs[arcs[0]].weight for arcs in steps) == length
 
     def lightest(self, start: int, end: int) -> list[int]:
         """The lightest arcs from a node to another, the first of the table first."""
-        there = [(arc.weight, number) for number, arc in enumerate(self.arcs) if (arc.start, arc.end) == (start, end)]
-        return [number for weight, number in sorted(there) if weight == min(there)[0]]
+        there = [(arc.weight, number) for number, arc in enumerate(self.arcs) if arc[:2] == (start, end)]
+        return [number for weight, number in there if weight == min(there)[0]]
 
     def nearest(self, place: Point, side: str) -> tuple[set[int], float]:
         """The nearest nodes where routes begin (`from`) or end (`to`), all that are as near, and the metres."""
-        nodes = enumerate(self.nodes)
-        away = {number: metres_between(place, node.place) for number, node in nodes if node.ends in ("", side)}
+        away = {number: metres_between(place, node.place) for number, node in enumerate(self.nodes) if node.ends in ("", side)}
         least = min(away.values())
         return {number for number, metres in away.items() if metres <= least + METRES_TOLERANCE}, least
 
     # Places on roads
 
-    def snap(
-        self, place: Point, radius: float, bearings: tuple[int, int] | None = None, is_curb: bool = False, is_any: bool = False
-    ) -> SnappedPoint | None:
-        """The nearest point of a road within so many metres, of a road of that direction, of a ferry only with `is_any`, and of equally near
-        roads of the first in the file; None for none. Raises Ambiguous where rounding decides which."""
+    def snap(self, place: Point, radius: float, *wishes: Any) -> SnappedPoint | None:
+        """The first point of `by_distance` within so many metres, None for none. Raises Ambiguous where rounding decides which."""
         found: SnappedPoint | None = None
-        for metres, point in self.by_distance(place, bearings, is_curb, is_any):
-            if metres > (radius if found is None else found.metres) + METRES_TOLERANCE:
+        for metres, point in self.by_distance(place, *wishes):
+            if metres > (found.metres if found else radius) + METRES_TOLERANCE:
                 break
-            if metres > radius - METRES_TOLERANCE or found is not None and is_other_by_rounding(metres, found.metres):
+            if metres > radius - METRES_TOLERANCE or found and is_other_by_rounding(metres, found.metres):
                 raise Ambiguous
             found = found or point
         return found
 
     def by_distance(
-        self, place: Point, bearings: tuple[int, int] | None, is_curb: bool = False, is_any: bool = False
+        self, place: Point, bearings: Bearings = None, is_curb: bool = False, is_any: bool = False
     ) -> Iterator[tuple[float, SnappedPoint | None]]:
         """For each edge, the nearest first and equally near ones as in the file, the metres and the nearest point, None where it
         has not that direction; of ferries only with `is_any`."""
-        rows = []
-        for number, edge in enumerate(self.edges):
-            if not is_any and self.is_ferry(number):
-                continue
-            ways = [nearest_on_segment(place, *step) for step in zip(edge.line, edge.line[1:])]
-            least = min(ways)[0]
-            near = [step for step, (away, _) in enumerate(ways) if away <= least + METRES_TOLERANCE]
-            rows.append((round(least, 8), number, near, ways))
-        for metres, number, near, ways in sorted(rows):
+        edges = [number for number in range(len(self.edges)) if is_any or not self.is_ferry(number)]
+        steps = {number: [nearest_on_segment(place, *step) for step in pairwise(self.edges[number].line)] for number in edges}
+        for metres, number in sorted((round(min(ways)[0], 8), number) for number, ways in steps.items()):
+            ways = steps[number]
+            near = [step for step, (away, _) in enumerate(ways) if away <= min(ways)[0] + METRES_TOLERANCE]
             if len(near) > 1 and is_other_by_rounding(max(ways[step][0] for step in near), min(ways)[0]):
                 raise Ambiguous
             point = self.point_on(number, near[0], ways[near[0]][1], metres, bearings)
             yield metres, self.at_curb(place, point, near) if is_curb and point is not None else point
 
     def at_curb(self, place: Point, point: SnappedPoint, near: Sequence[int]) -> SnappedPoint | None:
-        """The point with those of its arcs for which the place is at the side on which vehicles are, by the nearest steps of its edge; None
-        for none. On a road of one way, or for a place on its line, any will do."""
+        """The point with the arcs for which the place, by the nearest steps, is at the side of vehicles; None for none. On a road of
+        one way, or for a place on its line, any will do."""
         edge = self.edges[point.edge]
         if abs(point.metres - END_TOLERANCE) < METRES_TOLERANCE:
             raise Ambiguous
@@ -206,12 +192,11 @@ class Network:
         aside = [metres_left(place, edge.line[step], edge.line[step + 1]) for step in near]
         if min(aside) < 1e-3 and max(aside) > -1e-3:
             raise Ambiguous
-        kept = frozenset(arc for arc, way in edge.arcs.items() if way == ((aside[0] > 0) == self.is_left) and (point.arcs is None or arc in point.arcs))
+        here = {arc for arc, is_along in edge.arcs.items() if is_along == ((aside[0] > 0) == self.is_left)}
+        kept = frozenset(here if point.arcs is None else here & point.arcs)
         return point._replace(arcs=kept) if kept else None
 
-    def point_on(
-        self, number: int, step: int, share: float, metres: float, bearings: tuple[int, int] | None
-    ) -> SnappedPoint | None:
+    def point_on(self, number: int, step: int, share: float, metres: float, bearings: Bearings) -> SnappedPoint | None:
         """The point of an edge at a share of a step of it, None where it has not that direction."""
         edge, before = self.edges[number], self.along[number]
         long, whole = before[step + 1] - before[step], before[-1]
@@ -224,20 +209,18 @@ class Network:
         is_start, is_end = at <= END_TOLERANCE or whole <= 2 * END_TOLERANCE, at >= whole - END_TOLERANCE
         if is_start or is_end:
             arc, is_along = next(iter(edge.arcs.items()))
-            node = self.arcs[arc].start if is_along == is_start else self.arcs[arc].end
+            node = self.arcs[arc][0 if is_along == is_start else 1]
             return SnappedPoint(edge.line[0 if is_start else -1], metres, number, float(not is_start), node, arcs)
         wide = (metres + long) / EARTH_RADIUS  # (ways near a place may be taken as straight lines of a plane)
         near = 1e-9 + (wide**2 if wide < 0.004 else 0.0)
-        for arc in edge.arcs:
-            if self.weight_before(arc, at / whole - near) != self.weight_before(arc, at / whole + near):
-                raise Ambiguous
-        point = interpolate(edge.line[step], edge.line[step + 1], share)
-        return SnappedPoint(point, metres, number, at / whole, None, arcs)
+        if self.weights_before(number, at / whole - near) != self.weights_before(number, at / whole + near):
+            raise Ambiguous
+        return SnappedPoint(interpolate(*edge.line[step : step + 2], share), metres, number, at / whole, None, arcs)
 
-    def weight_before(self, arc: int, fraction: float) -> int:
-        """The weight of the part of an arc before a fraction of its edge."""
-        is_along = self.edges[self.edge_of[arc]].arcs[arc]
-        return round((fraction if is_along else 1 - fraction) * self.arcs[arc].weight)
+    def weights_before(self, edge: int, fraction: float) -> dict[int, int]:
+        """The weight of the part of each arc of an edge before a fraction of this."""
+        ways = self.edges[edge].arcs.items()
+        return {arc: round((fraction if is_along else 1 - fraction) * self.arcs[arc].weight) for arc, is_along in ways}
 
     def parts_at(self, point: SnappedPoint, is_start: bool) -> dict[int, Part]:
         """The arcs by which a point is left, or come to, each with the part that is driven."""
@@ -245,18 +228,16 @@ class Network:
             arcs = enumerate(self.arcs)
             return {arc: (arc, 0.0, 1.0, row.weight) for arc, row in arcs if row[0 if is_start else 1] == point.node}
         found = {}
-        for arc, is_along in self.edges[point.edge].arcs.items():
+        for arc, before in self.weights_before(point.edge, point.fraction).items():
             if point.arcs is None or arc in point.arcs:
-                share, before = point.fraction if is_along else 1 - point.fraction, self.weight_before(arc, point.fraction)
-                rest = self.arcs[arc].weight - before
-                found[arc] = (arc, share, 1.0, rest) if is_start else (arc, 0.0, share, before)
+                share = point.fraction if self.edges[point.edge].arcs[arc] else 1 - point.fraction
+                found[arc] = (arc, share, 1.0, self.arcs[arc].weight - before) if is_start else (arc, 0.0, share, before)
         return found
 
     def ended(self, first: Iterable[Part]) -> dict[int, int]:
         """The least weight at the end of each arc, from the parts of arcs that are driven first: a search from arc to arc."""
-        return cheapest(((part[3], part[0]) for part in first), lambda arc: (
-            (self.arcs[other].weight, other) for other in self.followers[arc]
-        ))
+        steps = [[(self.arcs[other].weight, other) for other in some] for some in self.followers]
+        return cheapest(((part[3], part[0]) for part in first), steps)
 
     def legs(self, start: SnappedPoint, end: SnappedPoint) -> list[list[Part]]:
         """The shortest paths between two points, in the graph whose arcs are split there."""
@@ -269,7 +250,7 @@ class Network:
             for arc in first.keys() & last.keys() if first[arc][1] <= last[arc][2]
         ]
         come_to = [(ended[arc] + last[other][3], other) for arc in ended for other in self.followers[arc] if other in last]
-        least = min((cost for cost, _ in [*come_to, *((part[3], 0) for part in direct)]), default=0)
+        least = min([*(cost for cost, _ in come_to), *(part[3] for part in direct)], default=0)
         found = [[part] for part in direct if part[3] == least]
         tails = [([last[arc]], least - last[arc][3]) for arc in sorted({arc for cost, arc in come_to if cost == least})]
         while tails:
@@ -287,16 +268,14 @@ class Network:
         return found
 
 
-def cheapest(starts: Iterable[tuple[int, int]], steps: Callable[[int], Iterable[tuple[int, int]]]) -> dict[int, int]:
+def cheapest(starts: Iterable[tuple[int, int]], steps: Sequence[Sequence[tuple[int, int]]]) -> dict[int, int]:
     """The least cost of each place, from those where one begins, by Dijkstra's algorithm: `steps` are the costs to others."""
-    found: dict[int, int] = {}
-    heap = list(starts)
-    heapq.heapify(heap)
+    found, heap = dict[int, int](), sorted(starts)
     while heap:
         cost, place = heapq.heappop(heap)
         if place not in found:
             found[place] = cost
-            for more, other in steps(place):
+            for more, other in steps[place]:
                 heapq.heappush(heap, (cost + more, other))
     return found
 
