@@ -11,7 +11,7 @@ import math
 import os
 import pathlib
 import sys
-from collections.abc import Callable, Sequence
+from collections.abc import Callable, Mapping, Sequence
 from typing import Any, NamedTuple
 from unittest import mock
 
@@ -205,6 +205,15 @@ def run_tool(name: str, *words: object, given: str = "") -> tuple[str, str]:
         with mock.patch.object(sys, "argv", argv), mock.patch.object(sys, "stdin", stdin):
             module.main()
     return out.getvalue(), said.getvalue()
+
+
+def map_text(nodes: Mapping[int, Point], ways: Mapping[int, tuple[Sequence[int], Mapping[str, object]]], more: str = "") -> str:
+    """A map of OpenStreetMap: nodes with their places, and ways with their nodes and tags."""
+    text = [f"<node id='{node}' lon='{lon}' lat='{lat}'/>" for node, (lon, lat) in nodes.items()]
+    for way, (refs, tags) in ways.items():
+        inner = [*(f"<nd ref='{ref}'/>" for ref in refs), *(f"<tag k='{key}' v='{value}'/>" for key, value in tags.items())]
+        text.append(f"<way id='{way}'>{''.join(inner)}</way>")
+    return f"<osm version='0.6'>{''.join(text)}{more}</osm>"
 
 
 # Places and requests

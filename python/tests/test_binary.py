@@ -9,7 +9,8 @@ import zlib
 
 import numpy as np
 import pytest
-from tool_case import IN_TABLES, PYTHON, ROOT, VILLAGE, ToolCase
+from draws import run_tool
+from tool_case import IN_TABLES, PYTHON, ROOT, VILLAGE
 
 import domethyme
 from domethyme.network import column_file, from_tables, net_file
@@ -27,130 +28,124 @@ from,to,weight,seconds,metres,osm,highway,name,WKT
 """
 
 
-class BinaryCase(ToolCase):
-    def setUp(self):
-        super().setUp()
-        self.make()
-        self.prefix = str(self.folder / "v")
-        self.path = self.folder / "v.net"
-
-    def make(self):
-        self.run_tool("osm_to_gr", VILLAGE, "v", "--keep-islands", "--tables")
-
-    def assert_same(self, one, other):
-        for name in IN_TABLES:
-            values = [np.asarray(getattr(each, name)) for each in (one, other)]
-            np.testing.assert_array_equal(*values, name)
-            self.assertEqual(values[0].dtype, values[1].dtype, name)
-
-    def refused(self, says):
-        with self.assertRaisesRegex(domethyme.NetworkError, rf"v\.net: {says}"):
-            answers(self.prefix)
+@pytest.fixture
+def village(tmp_path):
+    """The prefix of the files of the village, and of its tables."""
+    run_tool("osm_to_gr", VILLAGE, tmp_path / "v", "--keep-islands", "--tables")
+    return str(tmp_path / "v")
 
 
-def answers(prefix):
+@pytest.fixture
+def small(tmp_path):
+    """The file of a network of three nodes, so that each byte of it can be changed."""
+    (tmp_path / "n.csv").write_text(NODES)
+    (tmp_path / "a.csv").write_text(ARCS)
+    run_tool("to_network", tmp_path / "n.csv", tmp_path / "a.csv", tmp_path / "v", "--attribution", "Us")
+    return tmp_path / "v.net"
+
+
+def assert_same(one, other):
+    for name in IN_TABLES:
+        values = [np.asarray(getattr(each, name)) for each in (one, other)]
+        np.testing.assert_array_equal(*values, name)
+        assert values[0].dtype == values[1].dtype, name
+
+
+def answers(path):
     """All that is in a network's file, and some of what is answered by it."""
-    roads = RoadIndex(prefix)
-    columns = [column[:].tolist() for column in roads.arrays.file.columns.values()]
-    return str(
-        (columns, roads.nearest((0.0004, 0.0001), 2), roads.lightest((0, 1, 0)).tolist(), roads.unit, Tiles(roads.arrays).about)
-    )
+    roads = RoadIndex(str(path).removesuffix(".net"))
+    found = columns_of(roads.arrays), roads.nearest((0.0004, 0.0001), 2), roads.lightest((0, 1, 0)).tolist(), roads.unit
+    return str((found, Tiles(roads.arrays).about))
 
 
-class SameTests(BinaryCase):
-    def test_the_file_and_the_tables(self):
-        """Both have the same arrays, and a route along each arc is the same by both, and by the file alone."""
-        before = from_tables.arrays_from_tables(self.prefix)
-        for name in ("nodes.csv", "arcs.csv"):
-            (self.folder / f"v.{name}").rename(self.folder / f"copy.{name}")
-        self.assert_same(from_tables.load_network(self.prefix), before)
-        network, tables = domethyme.Network(self.prefix), domethyme.Network(self.folder / "copy")
-        self.assertEqual([net_file.is_current(each.prefix) for each in (network, tables)], [True, False])
-        frame = network.arcs_frame()
-        for (start, end), weight in frame.groupby(["from", "to"])["weight"].min().items():
-            route = domethyme.Route(start, end, weight, [], [start, end])
-            self.assertEqual(route.geojson(network), route.geojson(tables))
-        for each in (network, tables):
-            for nodes, says in (([1, 0, 37], "arc from node 0 to node 37"), ([0, 38], "it has 38 nodes"), ([-1, 0], "has 38 nodes")):
-                with self.assertRaisesRegex(domethyme.NetworkError, rf"{each.prefix}.arcs.csv: .*has.* {says}"):
-                    each.line(nodes)
-        self.assertEqual(frame.astype(str).values.tolist(), tables.arcs_frame().astype(str).values.tolist())
-        self.assertEqual(network.nodes_frame().astype(str).values.tolist(), tables.nodes_frame().astype(str).values.tolist())
+def columns_of(arrays):
+    return {name: column[:].tolist() for name, column in arrays.file.columns.items()}
 
 
-class OtherTests(BinaryCase):
-    def test_one_that_is_older_or_of_other_tables_is_not_read(self):
-        self.assertTrue(net_file.is_current(self.prefix))
-        later = os.stat(self.path).st_mtime + 1
-        arcs = self.folder / "v.arcs.csv"
-        for time in (later, 1):
-            os.utime(arcs, (time, time))
-            self.assertTrue(net_file.is_current(self.prefix))
-            whole = arcs.read_bytes()
-            arcs.write_bytes(whole.replace(b"High Street", b"Low  Street"))
-            os.utime(arcs, (time, time))
-            self.assertFalse(net_file.is_current(self.prefix))
-            arcs.write_bytes(whole)
-        self.assertTrue(net_file.is_current(self.prefix))
-        text = (self.folder / "v.nodes.csv").read_text()
-        self.write("v.nodes.csv", "\ufeff" + text.rstrip("\n"))
-        arcs.write_bytes(whole.replace(b"\n", b"\r\n"))  # (as other programs write them)
-        os.utime(self.folder / "v.nodes.csv", (1, 1))
-        self.assertFalse(net_file.is_current(self.prefix))
-        self.assertEqual(len(from_tables.load_network(self.prefix).node_osm), text.count("\n") - 1)
-        (self.folder / "v.arcs.csv").unlink()
-        with self.assertRaisesRegex(
-            domethyme.NetworkError, "v.nodes.csv: has changed since .*v.net was made of it: run `to_network` again"
-        ):
-            from_tables.load_network(self.prefix)
+def refused(path, says):
+    with pytest.raises(domethyme.NetworkError, match=rf"v\.net: {says}"):
+        answers(path)
 
-    def test_an_archive_of_an_earlier_version(self):
-        self.path.rename(self.folder / "v.npz")
-        with self.assertRaisesRegex(
-            domethyme.NetworkError, r"v\.npz: is an archive of an earlier version.*`to_network .*v\.nodes\.csv"
-        ):
-            from_tables.load_network(self.prefix)
-        self.run_tool("to_network", "v.nodes.csv", "v.arcs.csv", "v")
-        self.assertEqual(len(from_tables.load_network(self.prefix).node_osm), 38)
 
-    def test_what_is_no_file(self):
-        self.path.unlink()
-        for name in ("nodes.csv", "arcs.csv"):
-            (self.folder / f"v.{name}").unlink()
-        os.mkfifo(self.path)
-        self.refused("is no regular file")
+def test_the_file_and_the_tables(village, tmp_path):
+    """Both have the same arrays, the file also alone, and name the same node that isn't there."""
+    before = from_tables.arrays_from_tables(village)
+    for name in ("nodes.csv", "arcs.csv"):
+        (tmp_path / f"v.{name}").rename(tmp_path / f"copy.{name}")
+    assert_same(from_tables.load_network(village), before)
+    networks = domethyme.Network(village), domethyme.Network(tmp_path / "copy")
+    assert [net_file.is_current(each.prefix) for each in networks] == [True, False]
+    for each in networks:
+        for nodes, says in (([1, 0, 37], "arc from node 0 to node 37"), ([0, 38], "it has 38 nodes"), ([-1, 0], "has 38 nodes")):
+            with pytest.raises(domethyme.NetworkError, match=rf"{each.prefix}.arcs.csv: .*has.* {says}"):
+                each.line(nodes)
 
-    def test_written_in_place(self):
-        """A file that is written while it is mapped: what was verified is verified anew, and another file is refused."""
-        arrays = RoadIndex(self.prefix).arrays
-        before = {name: column[:].tolist() for name, column in arrays.file.columns.items()}
-        os.utime(self.path, (1, 1))
+
+def test_one_that_is_older_or_of_other_tables_is_not_read(village, tmp_path):
+    arcs, nodes = tmp_path / "v.arcs.csv", tmp_path / "v.nodes.csv"
+    whole, text = arcs.read_bytes(), nodes.read_text()
+    for time in (os.stat(f"{village}.net").st_mtime + 1, 1):
+        os.utime(arcs, (time, time))
+        assert net_file.is_current(village)
+        arcs.write_bytes(whole.replace(b"High Street", b"Low  Street"))
+        os.utime(arcs, (time, time))
+        assert not net_file.is_current(village)
+        arcs.write_bytes(whole)
+    assert net_file.is_current(village)
+    nodes.write_text("\ufeff" + text.rstrip("\n"))
+    arcs.write_bytes(whole.replace(b"\n", b"\r\n"))  # (as other programs write them)
+    os.utime(nodes, (1, 1))
+    assert not net_file.is_current(village)
+    assert len(from_tables.load_network(village).node_osm) == text.count("\n") - 1
+    arcs.unlink()
+    with pytest.raises(domethyme.NetworkError, match="v.nodes.csv: has changed since .*v.net was made of it: run `to_network`"):
+        from_tables.load_network(village)
+
+
+def test_an_archive_of_an_earlier_version(village, tmp_path):
+    (tmp_path / "v.net").rename(tmp_path / "v.npz")
+    with pytest.raises(domethyme.NetworkError, match=r"v\.npz: is an archive of an earlier version.*`to_network .*v\.nodes\.csv"):
+        from_tables.load_network(village)
+    run_tool("to_network", f"{village}.nodes.csv", f"{village}.arcs.csv", village)
+    assert len(from_tables.load_network(village).node_osm) == 38
+
+
+def test_what_is_no_file(tmp_path):
+    os.mkfifo(tmp_path / "v.net")
+    refused(tmp_path / "v.net", "is no regular file")
+
+
+def test_written_in_place(small):
+    """A file that is written while it is mapped: what was verified is verified anew, and another file is refused."""
+    arrays = net_file.read(small)
+    before, whole = columns_of(arrays), small.read_bytes()
+    os.utime(small, (1, 1))
+    arrays.file.check_unchanged()
+    assert columns_of(arrays) == before
+
+    def write(place, byte):
+        with open(small, "r+b") as file:
+            file.seek(place)
+            file.write(byte)
+
+    write(whole.index(arrays.points[:].tobytes()), b"\x77")
+    arrays.file.check_unchanged()
+    for name, column in arrays.file.columns.items():
+        if name != "points":
+            assert column[:].tolist() == before[name]
+    arrays.file.verify(len(whole) - 1)  # (the service has files of no more bytes verified before it begins)
+    for attempt in (lambda: arrays.points[:], lambda: arrays.file.verify(len(whole))):
+        with pytest.raises(domethyme.NetworkError, match="v.net: is damaged: points has another checksum"):
+            attempt()
+    os.truncate(small, len(whole) + 1)
+    with pytest.raises(domethyme.NetworkError, match="was written to while it was in use"):
         arrays.file.check_unchanged()
-        self.assertEqual({name: column[:].tolist() for name, column in arrays.file.columns.items()}, before)
-        with open(self.path, "r+b") as file:
-            file.seek(4000)
-            file.write(b"\x77")
-        arrays.file.check_unchanged()
-        damaged = []
-        for name, column in arrays.file.columns.items():
-            try:
-                column[:]
-            except domethyme.NetworkError as error:
-                self.assertIn(f"v.net: is damaged: {name} has another checksum", str(error))
-                damaged.append(name)
-        self.assertEqual(len(damaged), 1)
-        size = os.path.getsize(self.path)
-        os.truncate(self.path, size + 1)
-        with self.assertRaisesRegex(domethyme.NetworkError, "was written to while it was in use"):
-            arrays.file.check_unchanged()
-        os.truncate(self.path, size)
-        arrays.file.check_unchanged()
-        with open(self.path, "r+b") as file:
-            file.seek(-1, os.SEEK_END)
-            file.write(b"\x77")
-        for attempt in (arrays.file.check_unchanged, lambda: arrays.file.columns[damaged[0]][:]):
-            with self.assertRaisesRegex(domethyme.NetworkError, "was written to while it was in use"):
-                attempt()
+    os.truncate(small, len(whole))
+    arrays.file.check_unchanged()
+    write(len(whole) - 1, b"\x77")
+    for attempt in (arrays.file.check_unchanged, lambda: arrays.points[:]):
+        with pytest.raises(domethyme.NetworkError, match="was written to while it was in use"):
+            attempt()
 
 
 @pytest.fixture
@@ -203,144 +198,119 @@ def test_values_that_can_not_be(mapped, numbers, spec, says):
         column[5]
 
 
-class SmallTests(BinaryCase):
-    """A network of three nodes, so that each byte of its file can be changed."""
-
-    def make(self):
-        self.write("n.csv", NODES)
-        self.write("a.csv", ARCS)
-        self.run_tool("to_network", "n.csv", "a.csv", "v", "--attribution", "Us")
-
-    def test_each_byte_changed(self):
-        """A named fault, or the same answers: those of the bytes between arrays, which nobody reads."""
-        whole, before = self.path.read_bytes(), answers(self.prefix)
-        refused = 0
-        for place in range(len(whole)):
-            change = 0x01 if place % 2 else 0xA5
-            self.path.write_bytes(whole[:place] + bytes([whole[place] ^ change]) + whole[place + 1 :])
-            try:
-                found = answers(self.prefix)
-            except domethyme.NetworkError as error:
-                self.assertRegex(str(error), r"v\.net: (is damaged: |isn't a network's file|has version )")
-                refused += 1
-            else:
-                self.assertEqual(found, before, place)
-        self.path.write_bytes(whole)
-        padding = sum(-column[:].nbytes % column_file.ALIGNED for column in net_file.read(str(self.path)).file.columns.values())
-        self.assertEqual(refused, len(whole) - padding)
-
-    def test_each_length(self):
-        whole = self.path.read_bytes()
-        for length in [*range(0, len(whole), 13), len(whole) - 1]:
-            self.path.write_bytes(whole[:length])
-            self.refused("is damaged: ")
-        self.path.write_bytes(whole + b"\0")
-        self.refused("is damaged: its size isn't the one")
-
-    def test_hostile_sizes_take_no_memory(self):
-        """Sizes that are as great as can be, with the right checksum."""
-        whole = self.path.read_bytes()
-        tail = int(np.frombuffer(whole[: column_file.HEAD.itemsize], column_file.HEAD)["tail"][0])
-        for array in range(len(net_file.FORMS[4])):
-            for rows in (1 << 62, (1 << 64) - 1, 1 << 33, 10**9):
-                place = tail + 8 * array
-                self.keep(whole[:place] + rows.to_bytes(8, "little") + whole[place + 8 :])
-                tracemalloc.start()
-                self.refused("is damaged: ")
-                most = tracemalloc.get_traced_memory()[1]
-                tracemalloc.stop()
-                self.assertLess(most, 1 << 20)
-
-    def keep(self, whole):
-        """Writes the file with the checksum of its head and tail."""
-        head = np.frombuffer(whole[: column_file.HEAD.itemsize], column_file.HEAD).copy()
-        head["sum"] = 0
-        head["sum"] = zlib.crc32(whole[int(head["tail"][0]) :], zlib.crc32(head.tobytes()))
-        self.path.write_bytes(head.tobytes() + whole[column_file.HEAD.itemsize :])
-
-    def test_arrays_that_do_not_fit(self):
-        """Right checksums, and values that can't be: they are refused where they are read."""
-        before = {name: column[:].copy() for name, column in net_file.read(str(self.path)).file.columns.items()}
-        for name, change in [
-            ("arc_from", lambda old: old + 100), ("arc_to", lambda old: old * 0 - 1), ("node_ends", lambda old: old + 4),
-            ("edge_begin", lambda old: old[::-1]), ("edge_begin", lambda old: old[:-1]), ("points", lambda old: old[:-1]),
-            ("points", lambda old: old + 2_000_000_000), ("arc_row", lambda old: old + 7),
-            ("row_texts", lambda old: old - 2), ("arc_weight", lambda old: old - 10**9),
-            ("arc_metres", lambda old: old * np.nan), ("text_begin", lambda old: old[:0]),
-            ("node_lon", lambda old: old[:-1]), ("arc_edge", lambda old: old + 9), ("about", lambda old: old[:-1]),
-            ("about", lambda old: old * 0), ("out_arcs", lambda old: old + 3), ("out_begin", lambda old: old[::-1]),
-            ("edge_things", lambda old: old + 9), ("node_cells", lambda old: old[::-1]),
-            ("step_edges", lambda old: old - 5), ("step_points", lambda old: old + 9), ("degrees", lambda old: old[:-1]),
-            ("edge_keys", lambda old: old[:-1])
-        ]:
-            with open(self.path, "wb") as file:
-                column_file.write(file, net_file.FORMS[4], 4, {**before, name: change(before[name])}.items())
-            with self.subTest(name=name):
-                self.refused("is damaged: ")
-
-    def test_another_version(self):
-        with open(self.path, "r+b") as file:
-            file.seek(8)
-            file.write(bytes([99]))
-        self.refused("has version 99 and not one from 2 to 6; convert the map again, or make it of its tables, as `to_network")
-
-    def test_an_earlier_version(self):
-        """A file of version 2, without checksums of tables, has what this one has, also with fewer kinds of texts."""
-        arrays, frames = net_file.read(str(self.path)), []
-        columns = {name: column[:] for name, column in arrays.file.columns.items()}
-        columns |= {"about": columns["about"][: ABOUT.index("nodes_sum")]}
-        for texts in (columns["row_texts"] * (np.arange(8) < 5), columns["row_texts"]):
-            with open(self.folder / "old.net", "w+b") as file:
-                column_file.write(file, net_file.FORMS[4], 2, {**columns, "row_texts": texts}.items())
-            frames.append(domethyme.Network(self.folder / "old").arcs_frame().values.tolist())
-        self.assert_same(net_file.read(self.folder / "old.net"), arrays)
-        self.assertEqual((frames[0], columns["about"][2:5].tolist()), (frames[1], [0, 3, 3]))
-
-    def test_files_are_closed(self):
-        """Once nobody has a network that was read of them."""
-        before = len(os.listdir("/proc/self/fd"))
-        for _ in range(3):
-            net_file.read(str(self.path))
-        gc.collect()
-        self.assertLessEqual(len(os.listdir("/proc/self/fd")), before)
-
-    def test_all_blocks_at_once(self):
-        """As the service verifies them before it begins, where the file has no more bytes than are said."""
-        whole = self.path.read_bytes()
-        begin = whole.index(net_file.read(str(self.path)).points[:].tobytes())
-        self.path.write_bytes(whole[:begin] + b"\x77" + whole[begin + 1 :])
-        file = net_file.read(str(self.path)).file
-        file.verify(len(whole) - 1)
-        with self.assertRaisesRegex(domethyme.NetworkError, "v.net: is damaged: points has another checksum"):
-            file.verify(len(whole))
-
-    def test_checksums(self):
-        """They change with the ends and with the weight of an arc."""
-        nodes, sums = from_tables.read_nodes(self.folder / "n.csv"), set()
-        for row in ("2,3,9", "2,2,9", "3,3,9", "2,3,90"):
-            arcs = from_tables.read_arcs(self.write("a.csv", ARCS.replace("2,3,9", row)), nodes)
-            sums.add(net_file.map_tempfile(net_file.build_arrays(nodes.arrays, arcs), "net").checksum)
-        self.assertEqual([*map(len, sums)], [8] * 4)
+def test_each_byte_changed(small):
+    """A named fault, or the same answers: those of the bytes between arrays, which nobody reads."""
+    whole, before, count = small.read_bytes(), answers(small), 0
+    padding = sum(-column[:].nbytes % column_file.ALIGNED for column in net_file.read(small).file.columns.values())
+    for place, byte in enumerate(whole):
+        small.write_bytes(whole[:place] + bytes([byte ^ (0x01 if place % 2 else 0xA5)]) + whole[place + 1 :])
+        try:
+            assert answers(small) == before, place
+        except domethyme.NetworkError as error:
+            assert re.search(r"v\.net: (is damaged: |isn't a network's file|has version )", str(error))
+            count += 1
+    assert count == len(whole) - padding
 
 
-class MemoryTests(ToolCase):
-    def test_a_process_has_what_it_uses(self):
-        """A network whose arrays have 25 MB: opening it and looking for places takes a few."""
-        self.run_program([ROOT / "bench/make_roads.py", 100_000, 1, self.folder / "large"])
-        self.assertGreater(os.path.getsize(self.folder / "large.net"), 20_000_000)
-        program = f"""
+def test_each_length(small):
+    whole = small.read_bytes()
+    for length in [*range(0, len(whole), 13), len(whole) - 1]:
+        small.write_bytes(whole[:length])
+        refused(small, "is damaged: ")
+    small.write_bytes(whole + b"\0")
+    refused(small, "is damaged: its size isn't the one")
+
+
+def test_hostile_sizes_take_no_memory(small):
+    """Sizes that are as great as can be, with the right checksum of head and tail."""
+    whole, size = small.read_bytes(), column_file.HEAD.itemsize
+    head = np.frombuffer(whole[:size], column_file.HEAD).copy()
+    tail, head["sum"] = int(head["tail"][0]), 0
+    for array in range(len(net_file.FORMS[4])):
+        for rows in (1 << 62, (1 << 64) - 1, 1 << 33, 10**9):
+            changed = whole[tail : tail + 8 * array] + rows.to_bytes(8, "little") + whole[tail + 8 * array + 8 :]
+            summed = head.copy()
+            summed["sum"] = zlib.crc32(changed, zlib.crc32(head.tobytes()))
+            small.write_bytes(summed.tobytes() + whole[size:tail] + changed)
+            tracemalloc.start()
+            refused(small, "is damaged: ")
+            most = tracemalloc.get_traced_memory()[1]
+            tracemalloc.stop()
+            assert most < 1 << 20
+
+
+@pytest.mark.parametrize("name, change", [
+    ("arc_from", lambda old: old + 100), ("arc_to", lambda old: old * 0 - 1), ("node_ends", lambda old: old + 4),
+    ("edge_begin", lambda old: old[::-1]), ("arc_row", lambda old: old + 7), ("row_texts", lambda old: old - 2),
+    ("points", lambda old: old + 2_000_000_000), ("arc_weight", lambda old: old - 10**9), ("arc_metres", lambda old: old * np.nan),
+    ("text_begin", lambda old: old[:0]), ("arc_edge", lambda old: old + 9), ("about", lambda old: old * 0),
+    ("out_arcs", lambda old: old + 3), ("out_begin", lambda old: old[::-1]), ("edge_things", lambda old: old + 9),
+    ("node_cells", lambda old: old[::-1]), ("step_edges", lambda old: old - 5), ("step_points", lambda old: old + 9),
+    *((name, lambda old: old[:-1]) for name in ("edge_begin", "points", "node_lon", "about", "degrees", "edge_keys"))
+])
+def test_arrays_that_do_not_fit(small, name, change):
+    """Right checksums, and values that can't be: they are refused where they are read."""
+    before = {name: column[:].copy() for name, column in net_file.read(small).file.columns.items()}
+    with open(small, "wb") as file:
+        column_file.write(file, net_file.FORMS[4], 4, {**before, name: change(before[name])}.items())
+    refused(small, "is damaged: ")
+
+
+def test_another_version(small):
+    whole = small.read_bytes()
+    small.write_bytes(whole[:8] + bytes([99]) + whole[9:])
+    refused(small, "has version 99 and not one from 2 to 6; convert the map again, or make it of its tables, as `to_network")
+
+
+def test_an_earlier_version(small, tmp_path):
+    """A file of version 2, without checksums of tables, has what this one has, also with fewer kinds of texts."""
+    arrays, frames = net_file.read(small), []
+    columns = {name: column[:] for name, column in arrays.file.columns.items()}
+    columns |= {"about": columns["about"][: ABOUT.index("nodes_sum")]}
+    for texts in (columns["row_texts"] * (np.arange(8) < 5), columns["row_texts"]):
+        with open(tmp_path / "old.net", "w+b") as file:
+            column_file.write(file, net_file.FORMS[4], 2, {**columns, "row_texts": texts}.items())
+        frames.append(domethyme.Network(tmp_path / "old").arcs_frame().values.tolist())
+    assert_same(net_file.read(tmp_path / "old.net"), arrays)
+    assert (frames[0], columns["about"][2:5].tolist()) == (frames[1], [0, 3, 3])
+
+
+def test_files_are_closed(small):
+    """Once nobody has a network that was read of them."""
+    before = len(os.listdir("/proc/self/fd"))
+    for _ in range(3):
+        net_file.read(small)
+    gc.collect()
+    assert len(os.listdir("/proc/self/fd")) <= before
+
+
+def test_checksums(tmp_path):
+    """They change with the ends and with the weight of an arc."""
+    (tmp_path / "n.csv").write_text(NODES)
+    nodes, sums = from_tables.read_nodes(tmp_path / "n.csv"), set()
+    for row in ("2,3,9", "2,2,9", "3,3,9", "2,3,90"):
+        (tmp_path / "a.csv").write_text(ARCS.replace("2,3,9", row))
+        arrays = net_file.build_arrays(nodes.arrays, from_tables.read_arcs(tmp_path / "a.csv", nodes))
+        sums.add(net_file.map_tempfile(arrays, "net").checksum)
+    assert [*map(len, sums)] == [8] * 4
+
+
+def test_a_process_has_what_it_uses(tmp_path):
+    """A network whose arrays have 25 MB: opening it and looking for places takes a few."""
+    subprocess.run([ROOT / "bench/make_roads.py", "100000", "1", tmp_path / "large"], check=True, capture_output=True)
+    assert os.path.getsize(tmp_path / "large.net") > 20_000_000
+    program = f"""
 import re, sys
 sys.path.insert(0, {str(PYTHON)!r})
 from domethyme.network.snapping import RoadIndex
 from domethyme_service.tiles import Tiles
 own = lambda: int(re.search(r"RssAnon:\\s+(\\d+)", open("/proc/self/status").read())[1])
 before = own()
-roads = RoadIndex({str(self.folder / "large")!r})
+roads = RoadIndex({str(tmp_path / "large")!r})
 for place in range(200):
     roads.nearest((9 + place / 3000, 47 + place / 4000), 3)
 Tiles(roads.arrays).tile(10, 537, 358)
 print(own() - before)
 """
-        ended = subprocess.run([sys.executable, "-P", "-c", program], capture_output=True, text=True)
-        self.assertEqual(ended.returncode, 0, ended.stderr)
-        self.assertLess(int(re.fullmatch(r"(-?\d+)\n", ended.stdout)[1]), 10_000, "KiB")
+    ended = subprocess.run([sys.executable, "-P", "-c", program], capture_output=True, text=True, check=True)
+    assert int(ended.stdout) < 10_000, "KiB"

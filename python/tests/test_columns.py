@@ -5,12 +5,11 @@ import gzip
 import io
 import json
 import re
-import subprocess
 import tracemalloc
 
 import numpy as np
 import pytest
-from tool_case import TOOLS, ToolCase
+from draws import run_tool
 
 import domethyme
 from domethyme.csv_tables import open_table
@@ -27,53 +26,56 @@ MOST = (1 << 63) - 1
 ARCS = "from,to,kmh\ndepot,shop,50\nshop,depot,50\nshop,farm,30\n"
 
 
-class ColumnTests(ToolCase):
-    def setUp(self):
-        super().setUp()
-        self.write("nodes.csv", NODES)
-        self.write("arcs.csv", ARCS)
-        self.write("trips.csv", "from_lon,from_lat,to_lon,to_lat\n0,0,0.001,0.002\n")
-        self.run_tool("to_network", "nodes.csv", "arcs.csv", "net", "--tables")
+@pytest.fixture
+def folder(tmp_path, monkeypatch):
+    """The folder in which the test runs, with a network, its tables, trips and what routecli answers."""
+    monkeypatch.chdir(tmp_path)
+    (tmp_path / "nodes.csv").write_text(NODES)
+    (tmp_path / "arcs.csv").write_text(ARCS)
+    (tmp_path / "trips.csv").write_text('"=1+label",from_lon,from_lat,to_lon,to_lat\n"=cmd|x",-0.0001,0,0.001,0.002\n')
+    (tmp_path / "answers").write_text("r 1 3 34693 2 1 2 3\n")
+    run_tool("to_network", "nodes.csv", "arcs.csv", "net", "--tables")
+    return tmp_path
 
-    def test_keys_come_back(self):
-        """In the package, in the tables and answers of the tools, and in tables that are written."""
-        domethyme.prepare(self.folder / "net.gr", self.folder / "net.rch", workers=1).close()
-        network = domethyme.Network(self.folder / "net")
-        with domethyme.Hierarchy(self.folder / "net.rch", keys=network.keys(), network=network) as hierarchy:
-            self.assertEqual(hierarchy.nearest(0.001, 0.0019)[0], "farm")
-        self.run_tool("nearest", "net", "trips.csv", "--snapped", "snapped.csv", "-o", "pairs")
-        self.write("answers", self.run_program([domethyme.find_program(), "route", "net.rch", "pairs"]).stdout)
-        for words in ((), ("--trips", "snapped.csv")):
-            asked = "to_geojson", "net", "answers", *words, "--format"
-            lines, table = (self.run_tool(*asked, form).stdout for form in ("lines", "csv"))
-            for found in (json.loads(lines)["properties"], next(csv.DictReader(io.StringIO(table)))):
-                self.assertEqual((str(found["from_node"]), found["from_key"], found["to_key"]), ("1", "depot", "farm"))
-        self.write("wrong.csv", (self.folder / "snapped.csv").read_text().replace("depot", "shop"))
-        says = "has from_key 'shop' where the answer has depot"
-        self.assert_refused("to_geojson", "net", "answers", "--trips", "wrong.csv", "-o", "out", says=says)
-        rows = (self.folder / "net.nodes.csv").read_text().splitlines()
-        self.assertEqual(rows[:2], ["node,osm,lon,lat,ends,key", "1,,0.0000000,0.0000000,,depot"])
-        kinds = '"Integer","Integer64","CoordX","CoordY","String","String"\n'
-        self.assertEqual((self.folder / "net.nodes.csvt").read_text(), kinds)
-        self.run_tool("to_network", "net.nodes.csv", "net.arcs.csv", "again")
-        (self.folder / "net.net").unlink()
-        for name in ("net", "again"):
-            self.assertEqual(domethyme.Network(self.folder / name).keys().node("farm"), 2)
 
-    def test_files_of_gzip(self):
-        """Tables, DIMACS files and answers."""
-        whole = {name: (self.folder / name).read_bytes() for name in ("nodes.csv", "arcs.csv", "net.gr")}
-        whole |= {"x.co": b"p aux sp co 3\nv 1 0 0\nv 2 1000 0\nv 3 1000 2000\n", "x.gr": whole["net.gr"]}
-        whole |= {"answers": b"r 1 2 8006 1 1 2\n"}
-        for name, text in whole.items():
-            (self.folder / f"{name}.gz").write_bytes(gzip.compress(text))
-        for tables, out in ((("nodes.csv", "arcs.csv"), "packed"), (("x.co", "x.gr"), "dimacs")):
-            self.run_tool("to_network", *(f"{name}.gz" for name in tables), out)
-            self.assertEqual((self.folder / f"{out}.gr").read_bytes(), whole["net.gr"])
-        self.assertEqual(read_graph(self.folder / "x.gr.gz"), read_graph(self.folder / "net.gr"))
-        self.assertIn("q 1 3\n", self.run_tool("nearest", "x.co.gz", "trips.csv").stdout)
-        for network in ("net", "x.co.gz"):
-            self.assertIn('"length":8006', self.run_tool("to_geojson", network, "answers.gz").stdout)
+def test_keys_come_back(folder):
+    """In the package, in the tables and answers of the tools, and in tables that are written; as do names and texts of a user's own
+    columns that begin as formulas, which are quoted in tables."""
+    domethyme.prepare("net.gr", "net.rch", workers=1).close()
+    network = domethyme.Network("net")
+    with domethyme.Hierarchy("net.rch", keys=network.keys(), network=network) as hierarchy:
+        assert hierarchy.nearest(0.001, 0.0019)[0] == "farm"
+    run_tool("nearest", "net", "trips.csv", "--snapped", "snapped.csv", "-o", "pairs")
+    assert (folder / "snapped.csv").read_text().splitlines()[1].startswith("'=cmd|x,-0.0001,0,0.001,0.002,1,")
+    for words in ((), ("--trips", "snapped.csv")):
+        lines, table = (run_tool("to_geojson", "net", "answers", *words, "--format", form)[0] for form in ("lines", "csv"))
+        for found, mark in ((json.loads(lines)["properties"], ""), (next(csv.DictReader(io.StringIO(table))), "'")):
+            assert (str(found["from_node"]), found["from_key"], found["to_key"]) == ("1", "depot", "farm")
+            assert found.get(f"{mark}=1+label") == (f"{mark}=cmd|x" if words else None)
+    (folder / "wrong.csv").write_text((folder / "snapped.csv").read_text().replace("depot", "shop"))
+    with pytest.raises(domethyme.DomethymeError, match="has from_key 'shop' where the answer has depot"):
+        run_tool("to_geojson", "net", "answers", "--trips", "wrong.csv", "-o", "out")
+    assert (folder / "net.nodes.csv").read_text().startswith("node,osm,lon,lat,ends,key\n1,,0.0000000,0.0000000,,depot\n")
+    assert (folder / "net.nodes.csvt").read_text() == '"Integer","Integer64","CoordX","CoordY","String","String"\n'
+    run_tool("to_network", "net.nodes.csv", "net.arcs.csv", "again")
+    (folder / "net.net").unlink()
+    assert [domethyme.Network(name).keys().node("farm") for name in ("net", "again")] == [2, 2]
+
+
+def test_files_of_gzip(folder):
+    """Tables, DIMACS files and answers."""
+    (folder / "x.co").write_text("p aux sp co 3\nv 1 0 0\nv 2 1000 0\nv 3 1000 2000\n")
+    graph = (folder / "net.gr").rename("x.gr").read_bytes()
+    for name in ("nodes.csv", "arcs.csv", "x.co", "x.gr", "answers"):
+        (folder / f"{name}.gz").write_bytes(gzip.compress((folder / name).read_bytes()))
+        (folder / name).unlink()
+    for out, tables in (("packed", ("nodes.csv.gz", "arcs.csv.gz")), ("dimacs", ("x.co.gz", "x.gr.gz"))):
+        run_tool("to_network", *tables, out)
+        assert (folder / f"{out}.gr").read_bytes() == graph
+    assert read_graph("x.gr.gz") == read_graph("packed.gr")
+    assert "q 1 3\n" in run_tool("nearest", "x.co.gz", "trips.csv")[0]
+    for network in ("packed", "x.co.gz"):
+        assert '"length":34693' in run_tool("to_geojson", network, "answers.gz")[0]
 
 
 def test_columns_that_are_nearly_there(tmp_path):
@@ -147,6 +149,18 @@ def test_rows_that_are_refused(tmp_path, nodes, arcs, says):
     assert str(refused.value) == f"{tmp_path}/{says}".replace("{}", str(tmp_path))
 
 
+@pytest.mark.parametrize("rows, unit", [
+    ("1,2,1001,1,0\n2,1,1999,2,0\n", "duration"), ("1,2,1000,1,10\n", "duration"), ("1,2,1001,0,10\n2,1,1999,1,20\n", "distance"),
+    ("1,2,1002,1,0\n", "weight"), ("1,2,1000,1,0\n2,1,2000,0,0\n", "weight"), ("1,2,0,0,0\n", "weight")
+])
+def test_units_of_weights(tmp_path, rows, unit):
+    """Milliseconds or centimetres to a rounding, of all arcs, if any has some."""
+    (tmp_path / "n.csv").write_text("lon,lat\n0,0\n0.00001,0\n")
+    (tmp_path / "a.csv").write_text(f"from,to,weight,seconds,metres\n{rows}")
+    nodes = from_tables.read_nodes(tmp_path / "n.csv")
+    assert net_file.weight_unit(net_file.build_arrays(nodes.arrays, from_tables.read_arcs(tmp_path / "a.csv", nodes))) == unit
+
+
 def test_kinds_of_roads():
     """Those of a kind are shown on maps from one zoom on."""
     kinds = "motorway trunk", "primary", "secondary", "tertiary", "unclassified residential living_street", "service track"
@@ -160,7 +174,7 @@ def test_a_line_of_many_points(tmp_path):
     line = ", ".join(f"{0.001 * step / 9000:.7f} {0.0001 * (step % 2):.7f}" for step in range(9001))
     (tmp_path / "n.csv").write_text("lon,lat\n0,0\n0.001,0\n")
     (tmp_path / "a.csv").write_text(f'from,to,kmh,WKT\n1,2,50,"LINESTRING ({line})"\n')
-    subprocess.run([TOOLS / "to_network", "n.csv", "a.csv", "net"], cwd=tmp_path, check=True, capture_output=True)
+    run_tool("to_network", tmp_path / "n.csv", tmp_path / "a.csv", tmp_path / "net")
     assert len(net_file.read(tmp_path / "net.net").points) == 9001
 
 
@@ -198,27 +212,26 @@ def test_keys_take_no_memory_of_a_process(tmp_path, is_old):
 
 
 @pytest.mark.parametrize("names", ["123", "213"])
-def test_names_that_are_numbers(names, tmp_path):
+def test_names_that_are_numbers(names, folder):
     """Names are keys whatever they are, also the numbers of rows from 1: a question by them would else be one by nodes from 0."""
-    (tmp_path / "nodes.csv").write_text("node,lon,lat\n" + "".join(f"{name},0.00{row},0\n" for row, name in enumerate(names)))
-    (tmp_path / "arcs.csv").write_text("from,to,weight\n1,2,10\n2,3,20\n")
+    (folder / "nodes.csv").write_text("node,lon,lat\n" + "".join(f"{name},0.00{row},0\n" for row, name in enumerate(names)))
+    (folder / "arcs.csv").write_text("from,to,weight\n1,2,10\n2,3,20\n")
     for tables, out in (("", "net"), ("net.", "again")):
-        words = f"{tables}nodes.csv", f"{tables}arcs.csv", out, "--tables"
-        subprocess.run([TOOLS / "to_network", *words], cwd=tmp_path, check=True, capture_output=True)
-        domethyme.prepare(tmp_path / f"{out}.gr", tmp_path / f"{out}.rch").close()
-        with domethyme.open(tmp_path / out) as hierarchy:
+        run_tool("to_network", f"{tables}nodes.csv", f"{tables}arcs.csv", out, "--tables")
+        domethyme.prepare(f"{out}.gr", f"{out}.rch").close()
+        with domethyme.open(out) as hierarchy:
             assert (hierarchy.length(1, 2), hierarchy.length(1, 3), [*hierarchy.network.keys()]) == (10, 30, [*map(int, names)])
 
 
-def test_keys_of_a_table_that_was_replaced(tmp_path):
+def test_keys_of_a_table_that_was_replaced(folder):
     """Another column of the table beside the network is read later, and has to be of the same table."""
-    table = tmp_path / "firm.nodes.csv"
-    table.write_text("node,lon,lat,shop\na,0,0,north\nb,0.001,0,south\n")
-    (tmp_path / "firm.arcs.csv").write_text("from,to,kmh\na,b,50\n")
-    subprocess.run([TOOLS / "to_network", table, "firm.arcs.csv", "firm"], cwd=tmp_path, check=True, capture_output=True)
-    network = domethyme.Network(tmp_path / "firm")
-    assert (network.keys("shop").node("south"), network.keys().node("b"), network.keys("key").node("b")) == (1, 1, 1)
-    table.write_text("node,lon,lat,shop\nb,0.001,0,south\na,0,0,north\n")
-    assert network.keys().node("b") == 1
+    table = folder / "firm.nodes.csv"
+    table.write_text("node,lon,lat,shop,key\na,0,0,north,x\nb,0.001,0,south,y\n")
+    (folder / "firm.arcs.csv").write_text("from,to,kmh\na,b,50\n")
+    run_tool("to_network", table, "firm.arcs.csv", "firm")
+    network = domethyme.Network("firm")
+    assert [network.keys(*column).node(key) for column, key in ((("shop",), "south"), ((), "y"), (("key",), "y"))] == [1, 1, 1]
+    table.write_text("node,lon,lat,shop,key\nb,0.001,0,south,y\na,0,0,north,x\n")
+    assert network.keys().node("y") == 1
     with pytest.raises(domethyme.NetworkError, match="firm.nodes.csv: isn't the table of the nodes that .*firm.net has"):
         network.keys("shop")

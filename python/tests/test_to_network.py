@@ -1,22 +1,22 @@
 """Networks of one's own: from tables and DIMACS files to the graph, the network and answers. A thousandth of a degree is 111.195 m
 along the equator."""
 import argparse
-import json
 import math
 import os
 
 import numpy as np
 import pytest
-from draws import drawn
+from draws import drawn, run_tool
 from hypothesis import given
 from hypothesis import strategies as st
 from service_case import ServiceCase
-from tool_case import IN_TABLES, VILLAGE, ToolCase, read_rows
+from tool_case import IN_TABLES, VILLAGE, read_rows
 
 import domethyme
 from domethyme.csv_tables import escape_formula, unescape_formula
 from domethyme.network import components, from_tables, net_file
 from domethyme.network.tables import read_attribution
+from domethyme_tools.cli import ToolError
 from domethyme_tools.to_network import mark
 
 NODES = "node,lon,lat\ndepot,0,0\nshop,0.001,0\n=farm,0.001,0.002\n"
@@ -50,53 +50,50 @@ def test_marks():
             mark(text)
 
 
-class TableTests(ToolCase):
-    def test_tables_that_it_writes(self):
-        self.write("nodes.csv", NODES)
-        self.write("arcs.csv", ARCS)
-        said = {"\udcff a\n b": "? a b", None: "? a b", "": "", "© Firm": "© Firm"}  # (a byte that isn't UTF-8; and none given)
-        for attribution, wanted in said.items():
-            words = [] if attribution is None else ["--attribution", attribution]
-            self.run_tool("to_network", "nodes.csv", "arcs.csv", "net", "--tables", *words)
-            self.assertEqual([read_attribution(self.folder / "net"), net_file.read(self.folder / "net.net").texts[0]], [wanted] * 2)
-        self.assertTrue(net_file.is_current(str(self.folder / "net")))
-        self.assertTrue((self.folder / "net.nodes.csv").read_text().endswith(",,'=farm\n"))
-        self.assertIn(",residential,'=Lane,", (self.folder / "net.arcs.csv").read_text())
-        self.assertEqual([arc.name for arc in read_rows(self.folder / "net.arcs.csv")], ["High Street"] * 2 + ["=Lane"] * 2)
-        self.assertEqual([node.lon for node in read_rows(self.folder / "net.nodes.csv")], [0, 0.001, 0.001])
-        self.assertEqual((self.folder / "net.nodes.prj").read_text()[:6], "GEOGCS")
-        self.assertTrue((self.folder / "net.gr").read_text().startswith("c attribution: © Firm\np sp 3 4\n"))
-        # other tables are beside the network then: they aren't taken for others' that are given
-        self.assert_refused("to_network", "nodes.csv", "arcs.csv", "net", says="net.nodes.csv: is there, and isn't nodes.csv")
+@pytest.fixture
+def folder(tmp_path, monkeypatch):
+    """The folder in which the test runs, with tables."""
+    monkeypatch.chdir(tmp_path)
+    (tmp_path / "nodes.csv").write_text(NODES)
+    (tmp_path / "arcs.csv").write_text(ARCS)
+    return tmp_path
 
-    def test_the_tables_of_a_map_give_its_network_again(self):
-        self.run_tool("osm_to_gr", VILLAGE, "v", "--keep-islands", "--tables")
-        graph, before = (self.folder / "v.gr").read_bytes(), net_file.read(self.folder / "v.net")
-        self.run_tool("to_network", "v.nodes.csv", "v.arcs.csv", "v")
-        self.assertEqual((self.folder / "v.gr").read_bytes(), graph)
-        for name in IN_TABLES:
-            np.testing.assert_array_equal(getattr(net_file.read(self.folder / "v.net"), name), getattr(before, name), name)
 
-    def test_what_the_tool_refuses(self):
-        self.assert_refused("to_network", "none.csv", "arcs.csv", "net", says="none.csv: No such file")
-        self.write("nodes.csv", "lon,lat\n0,0\n180,0\n")
-        self.write("arcs.csv", "from,to,weight\n1,2,1\n")
-        self.assert_refused("to_network", "nodes.csv", "arcs.csv", "net", says="arcs.csv: a line leads half round the earth")
-        self.run_tool("to_network", "nodes.csv", "arcs.csv", ".", status=2)
+def test_tables_that_it_writes(folder):
+    said = {"\udcff a\n b": "? a b", None: "? a b", "": "", "© Firm": "© Firm"}  # (a byte that isn't UTF-8; and none given)
+    for attribution, wanted in said.items():
+        words = [] if attribution is None else ["--attribution", attribution]
+        run_tool("to_network", "nodes.csv", "arcs.csv", "net", "--tables", *words)
+        assert [read_attribution("net"), net_file.read("net.net").texts[0]] == [wanted] * 2
+    assert net_file.is_current("net")
+    nodes, arcs = read_rows("net.nodes.csv"), read_rows("net.arcs.csv")
+    assert [node.lon for node in nodes] == [0, 0.001, 0.001]
+    assert [(arc.name, arc.weight, arc.seconds, arc.metres) for arc in arcs[1:3]] == [
+        ("High Street", 8006, 8.006, 111.2), ("=Lane", 26687, 26.687, 222.39)]
+    for name, text in (("nodes.csv", ",,'=farm\n"), ("arcs.csv", ",residential,'=Lane,"), ("nodes.prj", "GEOGCS")):
+        assert text in (folder / f"net.{name}").read_text()
+    assert (folder / "net.gr").read_text().startswith("c attribution: © Firm\np sp 3 4\n")
+    # other tables are beside the network then: they aren't taken for others' that are given
+    with pytest.raises(ToolError, match="net.nodes.csv: is there, and isn't nodes.csv"):
+        run_tool("to_network", "nodes.csv", "arcs.csv", "net")
 
-    def test_columns_of_trips(self):
-        """A label that begins as a formula is quoted in both tables, itself again in a feature; degrees below 0 stay numbers."""
-        self.write("n.csv", "lon,lat\n-0.001,0\n0,0\n")
-        self.write("a.csv", "from,to,weight\n1,2,7\n")
-        self.run_tool("to_network", "n.csv", "a.csv", "net")
-        self.write("trips.csv", '"=1+label",from_lon,from_lat,to_lon,to_lat\n"=cmd|x",-0.001,0,0,0\n')
-        self.run_tool("nearest", "net", "trips.csv", "--snapped", "snapped.csv", "-o", "pairs")
-        rows = (self.folder / "snapped.csv").read_text().splitlines()
-        self.assertEqual((rows[0].split(",")[0], rows[1]), ("'=1+label", "'=cmd|x,-0.001,0,0,0,1,0.0,2,0.0"))
-        self.write("answers", "r 1 2 7 1 1 2\n")
-        words = "to_geojson", "net", "answers", "--trips", "snapped.csv", "--format"
-        self.assertTrue(self.run_tool(*words, "csv").stdout.splitlines()[1].startswith("'=cmd|x,-0.001,"))
-        self.assertEqual(json.loads(self.run_tool(*words, "lines").stdout)["properties"]["=1+label"], "=cmd|x")
+
+def test_the_tables_of_a_map_give_its_network_again(folder):
+    run_tool("osm_to_gr", VILLAGE, "v", "--keep-islands", "--tables")
+    graph, before = (folder / "v.gr").read_bytes(), net_file.read("v.net")
+    run_tool("to_network", "v.nodes.csv", "v.arcs.csv", "v")
+    assert (folder / "v.gr").read_bytes() == graph
+    for name in IN_TABLES:
+        np.testing.assert_array_equal(getattr(net_file.read("v.net"), name), getattr(before, name), name)
+
+
+def test_what_the_tool_refuses(folder):
+    (folder / "half.csv").write_text("node,lon,lat\ndepot,0,0\nshop,180,0\n=farm,90,0\n")
+    with pytest.raises(ToolError, match="arcs.csv: a line leads half round the earth"):
+        run_tool("to_network", "half.csv", "arcs.csv", "net")
+    with pytest.raises(SystemExit, match="2"):
+        run_tool("to_network", "nodes.csv", "arcs.csv", ".")
+    assert not [*folder.glob("net*")]
 
 
 def test_nodes_without_arcs():
