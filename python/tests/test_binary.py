@@ -103,11 +103,14 @@ def test_one_that_is_older_or_of_other_tables_is_not_read(village, tmp_path):
 
 
 def test_an_archive_of_an_earlier_version(village, tmp_path):
+    """It isn't read; the tables of the map give its graph and network again."""
+    graph, before = (tmp_path / "v.gr").read_bytes(), net_file.read(tmp_path / "v.net")
     (tmp_path / "v.net").rename(tmp_path / "v.npz")
     with pytest.raises(domethyme.NetworkError, match=r"v\.npz: is an archive of an earlier version.*`to_network .*v\.nodes\.csv"):
         from_tables.load_network(village)
     run_tool("to_network", f"{village}.nodes.csv", f"{village}.arcs.csv", village)
-    assert len(from_tables.load_network(village).node_osm) == 38
+    assert (tmp_path / "v.gr").read_bytes() == graph
+    assert_same(from_tables.load_network(village), before)
 
 
 def test_what_is_no_file(tmp_path):
@@ -212,13 +215,13 @@ def test_each_byte_changed(small):
     assert count == len(whole) - padding
 
 
-def test_each_length(small):
-    whole = small.read_bytes()
-    for length in [*range(0, len(whole), 13), len(whole) - 1]:
-        small.write_bytes(whole[:length])
-        refused(small, "is damaged: ")
-    small.write_bytes(whole + b"\0")
-    refused(small, "is damaged: its size isn't the one")
+def test_each_length_and_another_version(small):
+    whole, remedy = small.read_bytes(), "convert the map again, or make it of its tables, as `to_network"
+    short = [(whole[:length], "is damaged: ") for length in [*range(0, len(whole), 13), len(whole) - 1]]
+    version = whole[:8] + bytes([99]) + whole[9:], f"has version 99 and not one from 2 to 6; {remedy}"
+    for text, says in (*short, (whole + b"\0", "is damaged: its size isn't the one"), version):
+        small.write_bytes(text)
+        refused(small, says)
 
 
 def test_hostile_sizes_take_no_memory(small):
@@ -254,12 +257,6 @@ def test_arrays_that_do_not_fit(small, name, change):
     with open(small, "wb") as file:
         column_file.write(file, net_file.FORMS[4], 4, {**before, name: change(before[name])}.items())
     refused(small, "is damaged: ")
-
-
-def test_another_version(small):
-    whole = small.read_bytes()
-    small.write_bytes(whole[:8] + bytes([99]) + whole[9:])
-    refused(small, "has version 99 and not one from 2 to 6; convert the map again, or make it of its tables, as `to_network")
 
 
 def test_an_earlier_version(small, tmp_path):

@@ -4,7 +4,6 @@ import csv
 import gzip
 import io
 import json
-import re
 import tracemalloc
 
 import numpy as np
@@ -12,7 +11,6 @@ import pytest
 from draws import run_tool
 
 import domethyme
-from domethyme.csv_tables import open_table
 from domethyme.dimacs import read_graph
 from domethyme.network import column_file, from_tables, net_file
 from domethyme.network.columns import NO_OSM, OF_NODES
@@ -78,14 +76,6 @@ def test_files_of_gzip(folder):
         assert '"length":34693' in run_tool("to_geojson", network, "answers.gz")[0]
 
 
-def test_columns_that_are_nearly_there(tmp_path):
-    (tmp_path / "trips.csv").write_text("from_lon,From_Lat,to_lon\n")
-    says = "its columns are from_lon, From_Lat, to_lon: is it From_Lat for from_lat, From_Lat for to_lat?"
-    with pytest.raises(domethyme.NetworkError, match=re.escape(f"trips.csv, row 1: has no columns from_lat, to_lat; {says}")):
-        with open_table(tmp_path / "trips.csv", ("from_lon", "from_lat", "to_lon", "to_lat")):
-            pass
-
-
 @pytest.mark.parametrize("nodes, arcs, unused", [
     ("id,lng,latitude", "source,target,meters,kmh", []), ("ID,long,y", "from_node,to_node,METRES,km/h", []),
     ("Node,Longitude,lat", "From_ID,to_id,Metres,kph", []), ("iD,X,LAT", "from,TO,metres,KMH", []),
@@ -111,6 +101,7 @@ def test_names_of_columns(tmp_path, nodes, arcs, unused):
         ("lon,Lon,lat\n0,0,0\n", ", row 1: has the columns lon and Lon, of which each may be lon: rename one"),
         ("lng,x,lat\n0,0,0\n", ", row 1: has the columns lng and x, of which each may be lon: rename one"),
         ("node,place\na,b\n", ", row 1: has no columns lon, lat; its columns are node, place"),
+        ("Lonn,latt\n1,2\n", ", row 1: has no columns lon, lat; its columns are Lonn, latt: is it Lonn for lon, latt for lat?"),
         ("lon,lat\n", ": has 0 nodes, and a network has from 1 to 33554432"),
         ("node,lon,lat\na,0,0\n\na,1,1\n", ", row 4: node 'a' comes twice"),
         ("node,lon,lat,key\na,0,0,x\nb,0,0,x\n", ", row 3: key 'x' comes twice"),

@@ -229,10 +229,10 @@ def test_rows() -> None:
         assert "reweigh: new.rch is older than new.gr: run " in said[-1]
 
 
-def test_roads_of_one_way_in_one_place(tmp_path: pathlib.Path, monkeypatch: pytest.MonkeyPatch) -> None:
+@pytest.mark.usefixtures("square")
+def test_roads_of_one_way_in_one_place(tmp_path: pathlib.Path) -> None:
     """From 1 to 2 and from 3 to 4, and there and back by 7, points that nothing but their ids tells apart: rows of these match
     nothing, and those of the way both."""
-    monkeypatch.chdir(tmp_path)
     nodes: Any = dict.fromkeys((1, 3, 8, 9), (0, 0)) | dict.fromkeys((2, 4), (0.001, 0))
     nodes |= {5: (0.001, -0.001), 6: (0, -0.001), 7: (0.0005, 0.001)}
     ways = {21: (1, 2, 7, 3, 4), 22: (2, 5), 23: (6, 3), 24: (8, 7, 9), 25: (8, 1)}

@@ -10,7 +10,7 @@ from draws import drawn, run_tool
 from hypothesis import given
 from hypothesis import strategies as st
 from service_case import ServiceCase
-from tool_case import IN_TABLES, VILLAGE, read_rows
+from tool_case import read_rows
 
 import domethyme
 from domethyme.csv_tables import escape_formula, unescape_formula
@@ -76,15 +76,6 @@ def test_tables_that_it_writes(folder):
     # other tables are beside the network then: they aren't taken for others' that are given
     with pytest.raises(ToolError, match="net.nodes.csv: is there, and isn't nodes.csv"):
         run_tool("to_network", "nodes.csv", "arcs.csv", "net")
-
-
-def test_the_tables_of_a_map_give_its_network_again(folder):
-    run_tool("osm_to_gr", VILLAGE, "v", "--keep-islands", "--tables")
-    graph, before = (folder / "v.gr").read_bytes(), net_file.read("v.net")
-    run_tool("to_network", "v.nodes.csv", "v.arcs.csv", "v")
-    assert (folder / "v.gr").read_bytes() == graph
-    for name in IN_TABLES:
-        np.testing.assert_array_equal(getattr(net_file.read("v.net"), name), getattr(before, name), name)
 
 
 def test_what_the_tool_refuses(folder):

@@ -198,11 +198,8 @@ def test_classes(convert):
         run_tool("without", "only", "motorway", "out2.gr")
     with pytest.raises(SystemExit, match="2"):
         run_tool("without", "net", "toll,toll", "out2.gr")
-
-
-def test_profiles_without_ferries(convert, tmp_path):
     profile = (pathlib.Path(domethyme.__file__).parent / "maps/profiles/car.json").read_text()
-    (tmp_path / "own.json").write_text(re.sub(r',\s*"ferry": 5', "", profile))
+    pathlib.Path("own.json").write_text(re.sub(r',\s*"ferry": 5', "", profile))
     assert "ferry" not in {*convert("12", "--profile", "own.json", "--keep-islands")["highway"]}
 
 
