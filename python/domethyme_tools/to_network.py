@@ -69,7 +69,8 @@ def parse_args() -> argparse.Namespace:
     parser.add_argument("--largest", action="store_true", help="keep the largest set of nodes that can all reach one another")
     parser.add_argument("--tables", action="store_true", help="write OUT.nodes.csv and OUT.arcs.csv too")
     parser.add_argument("--attribution", metavar="TEXT", help="the attribution that maps show (that in OUT.gr)")
-    parser.add_argument("--driving-side", choices=DRIVING_SIDES, default="right", help="the side of the road on which vehicles are (right)")
+    parser.add_argument("--driving-side", choices=DRIVING_SIDES,
+                        help="the side of the road on which vehicles are (that of OUT.net, if NODES and ARCS are its tables, or right)")
     options = parser.parse_args()
     if options.delimiter == options.decimal:
         parser.error("a comma is between fields too: give --delimiter, as ';'")
@@ -108,6 +109,7 @@ def main() -> None:
     if options.tables:
         tables_there(paths, True)
     marks = {} if options.tables else marks_beside(paths, options)
+    kept_profile = from_tables.profile_of(options.out) if marks and marks["nodes_size"] and marks["arcs_size"] else {}
     form = Form(options.delimiter, options.decimal, True)
     named = from_tables.read_nodes(options.nodes, warn, form)
     nodes, arcs = named.arrays, from_tables.read_arcs(options.arcs, named, options.weight, warn, form)
@@ -125,7 +127,8 @@ def main() -> None:
             marks = write_tables(tables, arrays)
         write_graph_of(bytes_of(graph), arrays, attribution)
         with raised_as(ToolError, options.arcs, ValueError):
-            arrays.about |= {**marks, "driving_side": DRIVING_SIDES.index(options.driving_side)}
+            side = {} if options.driving_side is None else {"driving_side": DRIVING_SIDES.index(options.driving_side)}
+            arrays.about |= {**kept_profile, **marks, **side}
             net_file.write(bytes_of(network), arrays)
     for line in said:
         warn(line)

@@ -42,4 +42,4 @@ def main() -> None:
         raise ToolError("has no arc without these classes", options.network)
     with atomic_write(options.output, "wb") as file:
         arcs = write_graph_of_view(file, view)
-    warn(f"{options.output}: {len(arcs)} of {len(network.arc_from)} arcs")
+    warn(f"{options.output}: {len(arcs)} of {len(network.out_arcs)} arcs")

@@ -79,11 +79,18 @@ def test_the_file_and_the_tables(village, tmp_path):
         for nodes, says in (([1, 0, 37], "arc from node 0 to node 37"), ([0, 38], "it has 38 nodes"), ([-1, 0], "has 38 nodes")):
             with pytest.raises(domethyme.NetworkError, match=rf"{each.prefix}.arcs.csv: .*has.* {says}"):
                 each.line(nodes)
+    (tmp_path / "copy.nodes.csv").write_text((tmp_path / "copy.nodes.csv").read_text() + "\n")
+    with pytest.raises(domethyme.NetworkError, match="copy.nodes.csv: isn't the table of the nodes that .*copy has"):
+        networks[1].keys("ends")
 
 
 def test_one_that_is_older_or_of_other_tables_is_not_read(village, tmp_path):
-    arcs, nodes = tmp_path / "v.arcs.csv", tmp_path / "v.nodes.csv"
+    """The tables are, and what they lack of the profile is kept."""
+    arcs, nodes, arrays = tmp_path / "v.arcs.csv", tmp_path / "v.nodes.csv", from_tables.arrays_from_tables(village)
     whole, text = arcs.read_bytes(), nodes.read_text()
+    arrays.about |= {"driving_side": 1, "mode": 2}
+    with open(f"{village}.net", "wb") as file:
+        net_file.write(file, arrays)
     for time in (os.stat(f"{village}.net").st_mtime + 1, 1):
         os.utime(arcs, (time, time))
         assert net_file.is_current(village)
@@ -96,10 +103,15 @@ def test_one_that_is_older_or_of_other_tables_is_not_read(village, tmp_path):
     arcs.write_bytes(whole.replace(b"\n", b"\r\n"))  # (as other programs write them)
     os.utime(nodes, (1, 1))
     assert not net_file.is_current(village)
-    assert len(from_tables.load_network(village).node_osm) == text.count("\n") - 1
+    found = from_tables.load_network(village)
+    assert (len(found.node_osm), found.driving_side, found.mode) == (text.count("\n") - 1, "left", "walking")
     arcs.unlink()
     with pytest.raises(domethyme.NetworkError, match="v.nodes.csv: has changed since .*v.net was made of it: run `to_network`"):
         from_tables.load_network(village)
+    for make, side in ((lambda: arcs.write_bytes(whole), "left"), (lambda: nodes.write_text(text), "right")):
+        make()
+        run_tool("to_network", nodes, arcs, village, *(("--driving-side", "right") if side == "right" else ()))
+        assert (net_file.read(f"{village}.net").driving_side, net_file.read(f"{village}.net").mode) == (side, "walking")
 
 
 def test_an_archive_of_an_earlier_version(village, tmp_path):

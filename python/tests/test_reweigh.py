@@ -109,8 +109,8 @@ def test_as_the_map_says(tmp_path: pathlib.Path, data: Any) -> None:
         after = after._replace(ways=[way._replace(speeds=after.ways[0].speeds[:1] * 2) for way in after.ways])
         rows = rows_of_steps(after.ways)
     (tmp_path / "own.json").write_text(profile)
-    for each, text in (("before", before.text()), ("wanted", after.text())):
-        convert(text, tmp_path, each, "--profile", tmp_path / "own.json", "--longest-arc", longest)
+    for each, text, more in (("before", before.text(), ["--tables"]), ("wanted", after.text(), [])):
+        convert(text, tmp_path, each, "--profile", tmp_path / "own.json", "--longest-arc", longest, *more)
     with open(tmp_path / "speeds.csv", "w", newline="") as file:
         csv.writer(file).writerows(data.draw(st.permutations(rows)))
     run_tool("reweigh", tmp_path / "before", tmp_path / "speeds.csv", tmp_path / "found")
@@ -257,6 +257,7 @@ def test_closed() -> None:
         assert network.keys().key(network.nearest(0.0019, 0.001)[0]) == 5 and len(network.arcs_frame()) == len(arcs)
         (point,) = network.points_on_roads((0.0018, 0.001))
         assert [round(each, 7) for each in (point.lon, point.lat)] == [0.001, 0.001]
+    assert run_tool("without", "new", "toll", "few.gr")[1] == f"without: few.gr: {len(arcs)} of {len(arcs)} arcs\n"
     pathlib.Path("trips.csv").write_text("from_lon,from_lat,to_lon,to_lat\n0.001,0,0,0\n")
     lines = [run_tool("nearest", name, "trips.csv")[0].splitlines()[0] for name in ("new", "map")]
     assert f" {len(arcs)} arcs, checksum " in lines[0] and lines[0][-8:] not in lines[1]

@@ -73,7 +73,7 @@ def with_arcs(network: Network, rows: Sequence[int], forbidden: Collection[tuple
 @given(st.data())
 def test_as_the_model(tmp_path: pathlib.Path, data: Any) -> None:
     """Over HTTP and in Python. What isn't reached has neither roads that are left out nor nodes that have no others."""
-    is_flat, name = data.draw(st.booleans()), data.draw(st.sampled_from(sorted(CLASSES)))
+    is_flat, name = data.draw(st.integers(0, 2)) == 0, data.draw(st.sampled_from(sorted(CLASSES)))
     made = data.draw(networks(["distance"], origins=[ORIGINS[0]]) if is_flat else networks())
     wanted = without(made, CLASSES[name])
     if wanted is None:

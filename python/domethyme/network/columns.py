@@ -36,6 +36,8 @@ ABOUT = (
 ABOUT_SIZES = ABOUT.index("nodes_sum"), ABOUT.index("driving_side"), len(ABOUT)
 # Those by which edited tables are told from the ones that the file has: the bytes and the CRC-32 of each, 0 where there is none.
 OF_TABLES = ("nodes_size", "arcs_size", "nodes_sum", "arcs_sum")
+# Those of the profile, which tables lack.
+OF_PROFILE = ("driving_side", "mode")
 # The versions of the file that are read, and the parts that each has beside the columns of every network.
 PARTS: Mapping[int, tuple[str, ...]] = {2: (), 3: ("keys",), 4: (), 5: ("keys", "order"), 6: ("map",)}
 

@@ -17,7 +17,7 @@ from ..errors import NetworkError, raised_as
 from ..limits import MAX_LINES, MAX_NODES, MAX_WEIGHT
 from ..program import StrPath
 from . import net_file
-from .columns import ENDS, NO_OSM, OF_ARCS, OF_NODES, TEXTS, UNITS, ColumnSpec
+from .columns import ENDS, NO_OSM, OF_ARCS, OF_NODES, OF_PROFILE, TEXTS, UNITS, ColumnSpec
 from .geo import parse_linestring
 from .groups import Ints, expand, first_of_equal, offsets, rows_of_groups
 from .net_file import ArcArrays, MappedNetwork, NodeArrays, build_arrays, map_tempfile, to_units
@@ -364,11 +364,20 @@ def load_network(prefix: str) -> MappedNetwork:
 
 
 def arrays_from_tables(prefix: str) -> net_file.Arrays:
-    """The network of NETWORK.nodes.csv and NETWORK.arcs.csv, and of the comment of NETWORK.gr. Raises as `build_arrays`."""
+    """The network of NETWORK.nodes.csv and NETWORK.arcs.csv, of the comment of NETWORK.gr, and of `profile_of`. Raises as `build_arrays`."""
     files = Files(prefix)
     nodes = read_nodes(files.nodes, is_beside_graph=True)
     arcs = read_arcs(files.arcs, nodes, needed=ARC_COLUMNS)
-    return build_arrays(nodes.arrays, arcs, read_attribution(prefix), net_file.marks_of(files.nodes, files.arcs))
+    return build_arrays(nodes.arrays, arcs, read_attribution(prefix), net_file.marks_of(files.nodes, files.arcs) | profile_of(prefix))
+
+
+def profile_of(prefix: str) -> dict[str, int]:
+    """What NETWORK.net has of the profile, and tables lack; nothing where it can't be read."""
+    try:
+        about = net_file.read(Files(prefix).binary).about
+    except NetworkError:
+        return {}
+    return {name: about[name] for name in OF_PROFILE}
 
 
 # Files of the DIMACS challenge
