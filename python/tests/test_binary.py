@@ -14,7 +14,7 @@ from tool_case import IN_TABLES, PYTHON, ROOT, VILLAGE
 
 import domethyme
 from domethyme.network import column_file, from_tables, net_file
-from domethyme.network.columns import ABOUT, ColumnSpec
+from domethyme.network.columns import ABOUT, COLUMNS, ColumnSpec
 from domethyme.network.snapping import RoadIndex
 from domethyme_service.tiles import Tiles
 
@@ -261,14 +261,17 @@ def test_hostile_sizes_take_no_memory(small):
     ("text_begin", lambda old: old[:0]), ("arc_edge", lambda old: old + 9), ("about", lambda old: old * 0),
     ("out_arcs", lambda old: old + 3), ("out_begin", lambda old: old[::-1]), ("edge_things", lambda old: old + 9),
     ("node_cells", lambda old: old[::-1]), ("step_edges", lambda old: old - 5), ("step_points", lambda old: old + 9),
-    *((name, lambda old: old[:-1]) for name in ("edge_begin", "points", "node_lon", "about", "degrees", "edge_keys"))
+    ("out_arcs", lambda old: np.append(old, 0)), *((name, lambda old: old[:-1]) for name in (
+        "edge_begin", "points", "node_lon", "about", "degrees", "edge_keys", "edge_arcs", "arc_penalty", "point_osm", "edge_metres"))
 ])
-def test_arrays_that_do_not_fit(small, name, change):
+def test_arrays_that_do_not_fit(request, name, change):
     """Right checksums, and values that can't be: they are refused where they are read."""
-    before = {name: column[:].copy() for name, column in net_file.read(small).file.columns.items()}
-    with open(small, "wb") as file:
-        column_file.write(file, net_file.FORMS[4], 4, {**before, name: change(before[name])}.items())
-    refused(small, "is damaged: ")
+    of_map = COLUMNS[name].part == "map"
+    path = f"{request.getfixturevalue('village')}.net" if of_map else request.getfixturevalue("small")
+    before, version = {name: column[:].copy() for name, column in net_file.read(path).file.columns.items()}, 6 if of_map else 4
+    with open(path, "wb") as file:
+        column_file.write(file, net_file.FORMS[version], version, {**before, name: change(before[name])}.items())
+    refused(path, "is damaged: ")
 
 
 def test_an_earlier_version(small, tmp_path):

@@ -215,7 +215,6 @@ def test_rows() -> None:
     assert arcs == {**before, (1, 2): 13343, (2, 5): 40030, (5, 2): 40030, (1, 5): 53374}
     wanted = "speeds.csv: 4 of 9 rows match nothing: 8, 9, 10, 11", "new: 4 arcs changed, 0 closed, and 0 cut off by these"
     assert said == [f"reweigh: {line}" for line in wanted]
-    assert arcs_of("map") == before
     for count, more in ((10, ""), (12, ", ..")):
         line = reweighed("".join(f"{way},50\n" for way in range(100, 100 + count)), "--unmatched", "rows")[0][0]
         assert line == f"reweigh: speeds.csv: {count} of {count} rows match nothing: 1, 2, 3, 4, 5, 6, 7, 8, 9, 10{more}"
@@ -282,7 +281,6 @@ def test_refused(tmp_path: pathlib.Path) -> None:
     whole = net_file.read("map.net").file.columns
     with open("old.net", "wb") as file:
         column_file.write(file, net_file.FORMS[4], 4, ((name, whole[name][:]) for name in net_file.FORMS[4]))
-    assert len(domethyme.Network("old").arcs_frame()) == len(arcs_of("map"))
     for network, out, says in (
         *((name, "new", f"{name}: has no ids of the points") for name in ("own.net", "old.net", "edited")),
         ("length", "new", "length.net: has weights that are no milliseconds"),
@@ -348,15 +346,3 @@ def test_plain_rows(tmp_path, rows):
             speeds = read_speeds(tmp_path / "speeds.csv")
             found.append([(each.ids.tolist(), each.kmh.tolist(), each.number.tolist()) for each in speeds])
         assert all(each == found[0] for each in found)
-
-
-def test_damaged_sizes(tmp_path):
-    """A file that leaves arcs out of one index alone, or has more than there are, is refused."""
-    convert(SQUARE, tmp_path, "map")
-    whole = {name: column[:].copy() for name, column in net_file.read(tmp_path / "map.net").file.columns.items()}
-    wrong = {name: whole[name][:-1] for name in ("edge_arcs", "arc_penalty", "point_osm", "edge_metres")}
-    for name, values in {**wrong, "out_arcs": np.append(whole["out_arcs"], 0)}.items():
-        with open(tmp_path / "map.net", "wb") as file:
-            column_file.write(file, net_file.FORMS[6], 6, {**whole, name: values}.items())
-        with pytest.raises(domethyme.NetworkError, match="is damaged: .* has another size"):
-            net_file.read(tmp_path / "map.net")

@@ -3,6 +3,7 @@ along the equator."""
 import argparse
 import math
 import os
+import re
 
 import numpy as np
 import pytest
@@ -20,27 +21,19 @@ from domethyme_tools.cli import ToolError
 from domethyme_tools.to_network import mark
 
 NODES = "node,lon,lat\ndepot,0,0\nshop,0.001,0\n=farm,0.001,0.002\n"
-ARCS = """\
-from,to,kmh,name,highway
-depot,shop,50,High Street,primary
-shop,depot,50,High Street,primary
-shop,=farm,30,=Lane,residential
-=farm,shop,30,=Lane,residential
-"""
+STREETS = {"50,High Street,primary": ("depot,shop", "shop,depot"), "30,=Lane,residential": ("shop,=farm", "=farm,shop")}
+ARCS = "".join(["from,to,kmh,name,highway\n", *(f"{ends},{street}\n" for street, rows in STREETS.items() for ends in rows)])
 
 
 @drawn(400)
 @given(st.text("'=+-@\t\r19.eExX", max_size=6))
 def test_texts_that_sheets_take_for_formulas(text):
-    """What is shown is itself again, and what begins as a formula is a number."""
+    """What is shown is itself again, and what begins as a formula is a number, which isn't changed."""
     shown = escape_formula(text)
     assert shown in (text, "'" + text) and unescape_formula(shown) == text
+    assert shown == text or text.lstrip("'")[:1] in tuple("=+-@\t\r") and not re.fullmatch(r"[-+]?\d+(\.\d+)?", text)
     if shown[:1] in tuple("=+-@\t\r"):
         assert math.isfinite(float(shown)), shown
-
-
-def test_what_is_no_formula():
-    assert [escape_formula(text) for text in ("x", "-9.5", "+3.", "'x")] == ["x", "-9.5", "'+3.", "'x"]
 
 
 def test_marks():

@@ -41,10 +41,9 @@ def without(made: Drawn, is_left_out: Callable[[Arc], bool]) -> Drawn | None:
     plain = Network(tables.nodes, [tables.arcs[row] for row in arcs])
     reached = [set(plain.lengths({node: 0})) for node in range(len(plain.nodes))]
     sets = {frozenset(other for other in reached[node] if node in reached[other]) for node in range(len(plain.nodes))}
-    most = max(map(len, sets))
-    if [len(each) for each in sets].count(most) > 1:
+    *_, second, largest = frozenset[int](), *sorted(sets, key=len)
+    if len(second) == len(largest):
         return None
-    largest = next(each for each in sets if len(each) == most)
     ends = {arc.end for arc in plain.arcs if arc.start in largest and tables.nodes[arc.end].ends == "to"}
     starts = {arc.start for arc in plain.arcs if arc.end in largest and tables.nodes[arc.start].ends == "from"}
     kept = [row for row in arcs if {*tables.arcs[row][:2]} <= largest | starts | ends]  # (as a ring at such a node)
