@@ -163,7 +163,7 @@ def test_kinds_of_roads():
 def test_a_line_of_many_points(tmp_path):
     """A field has more than the 131,072 characters that Python's csv takes by itself."""
     line = ", ".join(f"{0.001 * step / 9000:.7f} {0.0001 * (step % 2):.7f}" for step in range(9001))
-    (tmp_path / "n.csv").write_text("lon,lat\n0,0\n0.001,0\n")
+    (tmp_path / "n.csv").write_text("lon,lat\n0,0\n0.0099,0\n")  # (990 m from the end of the line)
     (tmp_path / "a.csv").write_text(f'from,to,kmh,WKT\n1,2,50,"LINESTRING ({line})"\n')
     run_tool("to_network", tmp_path / "n.csv", tmp_path / "a.csv", tmp_path / "net")
     assert len(net_file.read(tmp_path / "net.net").points) == 9001

@@ -32,7 +32,7 @@ TURNS = CAR.replace('{\n  "about"', '{\n  "turns": {"left": 700, "right": 250, "
 PLACES = {1: (0, 0), 2: (0.001, 0), 3: (0.002, 0), 4: (0, 0.001), 5: (0.001, 0.001), 6: (0.002, 0.001)}
 STREET = {"highway": "residential"}
 SQUARE = map_text(PLACES, {
-    11: ((1, 2, 3), {"highway": "primary"}), 12: ((1, 4, 5), STREET), 13: ((2, 5), STREET), 14: ((5, 6), STREET),
+    11: ((1, 2, 3), {"highway": "primary"}), 12: ((1, 4, 5), STREET), 13: ((2, 5), {**STREET, "toll": "yes"}), 14: ((5, 6), STREET),
     15: ((3, 6), {"highway": "footway"})
 })
 
@@ -252,16 +252,18 @@ def test_closed() -> None:
     assert said == ["reweigh: new: 1 arcs changed, 4 closed, and 0 cut off by these"]
     left = before.keys() - {(2, 1), (5, 6), (6, 5), (1, 5)}  # (an arc of which a part is closed is closed)
     assert arcs == {**{ends: before[ends] for ends in left}, (1, 2): 11437}
-    for network in (domethyme.Network("new"), domethyme.Network("new", exclude=["toll"])):
-        assert network.keys().key(network.nearest(0.0019, 0.001)[0]) == 5 and len(network.arcs_frame()) == len(arcs)
-        (point,) = network.points_on_roads((0.0018, 0.001))
-        assert [round(each, 7) for each in (point.lon, point.lat)] == [0.001, 0.001]
-    assert run_tool("without", "new", "toll", "few.gr")[1] == f"without: few.gr: {len(arcs)} of {len(arcs)} arcs\n"
+    network = domethyme.Network("new")
+    assert network.keys().key(network.nearest(0.0019, 0.001)[0]) == 5
+    (point,) = network.points_on_roads((0.0018, 0.001))
+    assert [round(each, 7) for each in (point.lon, point.lat)] == [0.001, 0.001]
+    assert run_tool("without", "new", "ferry", "few.gr")[1] == f"without: few.gr: {len(arcs)} of {len(arcs)} arcs\n"
     pathlib.Path("trips.csv").write_text("from_lon,from_lat,to_lon,to_lat\n0.001,0,0,0\n")
     lines = [run_tool("nearest", name, "trips.csv")[0].splitlines()[0] for name in ("new", "map")]
     assert f" {len(arcs)} arcs, checksum " in lines[0] and lines[0][-8:] not in lines[1]
     run_tool("reweigh", "new", "speeds.csv", "again")
     assert arcs_of("again") == arcs
+    reweighed("12,0\n")  # (then the toll road is the only one to the rest)
+    assert {*domethyme.Network("new", exclude=["toll"]).arcs_frame()["osm"]} == {11}
     heavy = "would have an arc that weighs more than 4294967295"
     for kmh, says in ((0, "would have no arc that is open"), (0.00001, heavy), (1e-14, heavy), (1e-320, heavy)):
         with pytest.raises(domethyme.NetworkError, match=f"map.net: {says}"):

@@ -1,6 +1,7 @@
 """Networks without some classes of roads: by the model, whose network lacks them, over HTTP and in Python; and ferries and toll
 roads of maps."""
 import contextlib
+import itertools
 import pathlib
 import pickle
 import re
@@ -101,6 +102,12 @@ def test_as_the_model(tmp_path: pathlib.Path, data: Any) -> None:
     with contextlib.suppress(Ambiguous):
         assert point.metres <= min(metres for metres, _ in wanted.roads.by_distance(place, is_any=True)) + 0.01
     lengths = [[net.lengths({node: 0}) for node in range(len(net.nodes))] for net in (made.tables, wanted.tables)]
+    sides = ({node.osm: row for row, node in enumerate(made.tables.nodes) if node.ends in ("", side)} for side in ("from", "to"))
+    begins, ends = ({osm: row for osm, row in side.items() if osm is not None} for side in sides)
+    if begins.keys() & ends.keys():  # (also of a junction that is split, and cut off)
+        by_osm = domethyme.Hierarchy(f"{prefix}.few.rch", keys=network.keys("osm"), network=network)
+        for one, other in itertools.permutations(sorted(begins.keys() & ends.keys()), 2):
+            assert by_osm.length(one, other) == lengths[1][begins[one]].get(ends[other])
     if lengths[0] != lengths[1]:  # (an arc that is longer than a way around it may be missing)
         for path, other in ((f"{prefix}.rch", network), (f"{prefix}.few.rch", str(prefix))):
             with pytest.raises(domethyme.WrongHierarchy):

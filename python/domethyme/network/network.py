@@ -93,7 +93,14 @@ class Network:
         if all(each is None for each in osm):
             why = "its nodes have no keys: they are in the column node, or osm, of the table of nodes"
             raise NetworkError(why, self.prefix)
-        return Keys.of_rows(zip(osm, [ENDS[each] for each in self.node_index.ends[:].tolist()]))
+        ends = [ENDS[each] for each in self.node_index.ends[:].tolist()]
+        if self._has_arcs and self._arrays.is_partial:
+            begins = {None, *(key for key, end in zip(osm, ends) if end in ("", "from"))}
+            for node, key in enumerate(osm):
+                if ends[node] == "no" and key not in begins:  # (where routes began at a junction from which nothing leads any more)
+                    ends[node] = "from"
+                    begins.add(key)
+        return Keys.of_rows(zip(osm, ends))
 
     @property
     def has_names(self) -> bool:
