@@ -108,10 +108,11 @@ def test_one_that_is_older_or_of_other_tables_is_not_read(village, tmp_path):
     arcs.unlink()
     with pytest.raises(domethyme.NetworkError, match="v.nodes.csv: has changed since .*v.net was made of it: run `to_network`"):
         from_tables.load_network(village)
-    for make, side in ((lambda: arcs.write_bytes(whole), "left"), (lambda: nodes.write_text(text), "right")):
-        make()
-        run_tool("to_network", nodes, arcs, village, *(("--driving-side", "right") if side == "right" else ()))
-        assert (net_file.read(f"{village}.net").driving_side, net_file.read(f"{village}.net").mode) == (side, "walking")
+    arcs.write_bytes(whole)
+    for words, side in (((), "left"), (("--driving-side", "right"), "right")):
+        run_tool("to_network", nodes, arcs, village, *words)
+        found = net_file.read(f"{village}.net")
+        assert (found.driving_side, found.mode) == (side, "walking")
 
 
 def test_an_archive_of_an_earlier_version(village, tmp_path):
@@ -123,11 +124,6 @@ def test_an_archive_of_an_earlier_version(village, tmp_path):
     run_tool("to_network", f"{village}.nodes.csv", f"{village}.arcs.csv", village)
     assert (tmp_path / "v.gr").read_bytes() == graph
     assert_same(from_tables.load_network(village), before)
-
-
-def test_what_is_no_file(tmp_path):
-    os.mkfifo(tmp_path / "v.net")
-    refused(tmp_path / "v.net", "is no regular file")
 
 
 def test_written_in_place(small):
@@ -227,13 +223,17 @@ def test_each_byte_changed(small):
     assert count == len(whole) - padding
 
 
-def test_each_length_and_another_version(small):
+def test_what_is_no_such_file(small):
+    """Of each length, of another version, and no file."""
     whole, remedy = small.read_bytes(), "convert the map again, or make it of its tables, as `to_network"
     short = [(whole[:length], "is damaged: ") for length in [*range(0, len(whole), 13), len(whole) - 1]]
     version = whole[:8] + bytes([99]) + whole[9:], f"has version 99 and not one from 2 to 6; {remedy}"
     for text, says in (*short, (whole + b"\0", "is damaged: its size isn't the one"), version):
         small.write_bytes(text)
         refused(small, says)
+    small.unlink()
+    os.mkfifo(small)
+    refused(small, "is no regular file")
 
 
 def test_hostile_sizes_take_no_memory(small):
@@ -261,8 +261,8 @@ def test_hostile_sizes_take_no_memory(small):
     ("text_begin", lambda old: old[:0]), ("arc_edge", lambda old: old + 9), ("about", lambda old: old * 0),
     ("out_arcs", lambda old: old + 3), ("out_begin", lambda old: old[::-1]), ("edge_things", lambda old: old + 9),
     ("node_cells", lambda old: old[::-1]), ("step_edges", lambda old: old - 5), ("step_points", lambda old: old + 9),
-    ("out_arcs", lambda old: np.append(old, 0)), *((name, lambda old: old[:-1]) for name in (
-        "edge_begin", "points", "node_lon", "about", "degrees", "edge_keys", "edge_arcs", "arc_penalty", "point_osm", "edge_metres"))
+    ("out_arcs", lambda old: np.append(old, 0)), *((name, lambda old: old[:-1]) for name in ("edge_begin", "points", "node_lon",
+        "about", "degrees", "edge_keys", "edge_arcs", "arc_penalty", "point_osm", "edge_metres"))
 ])
 def test_arrays_that_do_not_fit(request, name, change):
     """Right checksums, and values that can't be: they are refused where they are read."""
@@ -287,8 +287,7 @@ def test_an_earlier_version(small, tmp_path):
     assert (frames[0], columns["about"][2:5].tolist()) == (frames[1], [0, 3, 3])
 
 
-def test_files_are_closed(small):
-    """Once nobody has a network that was read of them."""
+def test_files_are_closed_once_nobody_has_their_network(small):
     before = len(os.listdir("/proc/self/fd"))
     for _ in range(3):
         net_file.read(small)
@@ -312,8 +311,7 @@ def test_a_process_has_what_it_uses(tmp_path):
     subprocess.run([ROOT / "bench/make_roads.py", "100000", "1", tmp_path / "large"], check=True, capture_output=True)
     assert os.path.getsize(tmp_path / "large.net") > 20_000_000
     program = f"""
-import re, sys
-sys.path.insert(0, {str(PYTHON)!r})
+import re
 from domethyme.network.snapping import RoadIndex
 from domethyme_service.tiles import Tiles
 own = lambda: int(re.search(r"RssAnon:\\s+(\\d+)", open("/proc/self/status").read())[1])
@@ -324,5 +322,6 @@ for place in range(200):
 Tiles(roads.arrays).tile(10, 537, 358)
 print(own() - before)
 """
-    ended = subprocess.run([sys.executable, "-P", "-c", program], capture_output=True, text=True, check=True)
+    environment = {**os.environ, "PYTHONPATH": str(PYTHON)}
+    ended = subprocess.run([sys.executable, "-P", "-c", program], env=environment, capture_output=True, text=True, check=True)
     assert int(ended.stdout) < 10_000, "KiB"

@@ -37,8 +37,7 @@ def folder(tmp_path, monkeypatch):
 
 
 def test_keys_come_back(folder):
-    """In the package, in the tables and answers of the tools, and in tables that are written; as do names and texts of a user's own
-    columns that begin as formulas, which are quoted in tables."""
+    """In the package, in tables and answers; as do texts of a user's own columns that begin as formulas, quoted in tables."""
     domethyme.prepare("net.gr", "net.rch", workers=1).close()
     network = domethyme.Network("net")
     with domethyme.Hierarchy("net.rch", keys=network.keys(), network=network) as hierarchy:

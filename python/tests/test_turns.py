@@ -17,13 +17,12 @@ FROM, VIA, TO = ("w", 1, "from"), ("n", 2, "via"), ("w", 3, "to")
 
 def crossing(*restrictions):
     """The map of the crossing with relations (from, to, value), whose ways are named by the nodes at their ends."""
-    text = []
+    more = ""
     for number, (start, end, value) in enumerate(restrictions, 1):
         rows = ("way", start, "from"), ("way", end, "to"), ("node", 1, "via")
         members = "".join(f"<member type='{kind}' ref='{ref}' role='{role}'/>" for kind, ref, role in rows)
-        tags = f"<tag k='type' v='restriction'/><tag k='restriction' v='{value}'/>"
-        text.append(f"<relation id='{number}'>{members}{tags}</relation>")
-    return map_text(PLACES, {end: ((end, 1), {"highway": "residential"}) for end in (2, 3, 4, 5)}, "".join(text))
+        more += f"<relation id='{number}'>{members}<tag k='type' v='restriction'/><tag k='restriction' v='{value}'/></relation>"
+    return map_text(PLACES, {end: ((end, 1), {"highway": "residential"}) for end in (2, 3, 4, 5)}, more)
 
 
 @pytest.mark.parametrize("starts", [(2, 4), (2,)])

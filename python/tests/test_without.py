@@ -102,11 +102,11 @@ def test_as_the_model(tmp_path: pathlib.Path, data: Any) -> None:
     with contextlib.suppress(Ambiguous):
         assert point.metres <= min(metres for metres, _ in wanted.roads.by_distance(place, is_any=True)) + 0.01
     lengths = [[net.lengths({node: 0}) for node in range(len(net.nodes))] for net in (made.tables, wanted.tables)]
-    sides = ({node.osm: row for row, node in enumerate(made.tables.nodes) if node.ends in ("", side)} for side in ("from", "to"))
-    begins, ends = ({osm: row for osm, row in side.items() if osm is not None} for side in sides)
-    if begins.keys() & ends.keys():  # (also of a junction that is split, and cut off)
+    rows = [*enumerate(made.tables.nodes)]
+    begins, ends = ({node.osm: row for row, node in rows if node.ends in ("", side)} for side in ("from", "to"))
+    if known := begins.keys() & ends.keys() - {None}:  # (also of a junction that is split, and cut off)
         by_osm = domethyme.Hierarchy(f"{prefix}.few.rch", keys=network.keys("osm"), network=network)
-        for one, other in itertools.permutations(sorted(begins.keys() & ends.keys()), 2):
+        for one, other in itertools.permutations(sorted(known), 2):
             assert by_osm.length(one, other) == lengths[1][begins[one]].get(ends[other])
     if lengths[0] != lengths[1]:  # (an arc that is longer than a way around it may be missing)
         for path, other in ((f"{prefix}.rch", network), (f"{prefix}.few.rch", str(prefix))):

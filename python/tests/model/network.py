@@ -182,8 +182,8 @@ class Network:
             yield metres, self.at_curb(place, point, near) if is_curb and point is not None else point
 
     def at_curb(self, place: Point, point: SnappedPoint, near: Sequence[int]) -> SnappedPoint | None:
-        """The point with the arcs for which the place, by the nearest steps, is at the side of vehicles; None for none. On a road of
-        one way, or for a place on its line, any will do."""
+        """The point with the arcs for which the place, by the nearest steps, is at the side of vehicles; None for none. On a one-way
+        road, or for a place on its line, any will do."""
         edge = self.edges[point.edge]
         if abs(point.metres - END_TOLERANCE) < METRES_TOLERANCE:
             raise Ambiguous
