@@ -34,8 +34,9 @@ def whole_numbers(name: str, values: "ArrayLike | list[Hashable]", low: int, hig
             places = f": {OF_PLACES[name]}" if array.dtype.kind == "f" and name in OF_PLACES else ""
             raise ValueError(f"{name} have to be integers, and are {array.dtype}{places}")
         array = array if are_whole else objects
-    if array.min() < low or array.max() > high:
-        raise ValueError(f"{name} have to be from {low} to {high}, and are from {array.min()} to {array.max()}")
+    least, most = int(array.min()), int(array.max())  # (numpy compares unsigned integers with others as floats)
+    if least < low or most > high:
+        raise ValueError(f"{name} have to be from {low} to {high}, and are from {least} to {most}")
     return array.astype(np.int64)
 
 

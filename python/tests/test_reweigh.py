@@ -259,8 +259,8 @@ def test_closed() -> None:
     pathlib.Path("trips.csv").write_text("from_lon,from_lat,to_lon,to_lat\n0.001,0,0,0\n")
     lines = [run_tool("nearest", name, "trips.csv")[0].splitlines()[0] for name in ("new", "map")]
     assert f" {len(arcs)} arcs, checksum " in lines[0] and lines[0][-8:] not in lines[1]
-    run_tool("reweigh", "new", "speeds.csv", "again")
-    assert arcs_of("again") == arcs
+    said = run_tool("reweigh", "new", "speeds.csv", "again")[1].splitlines()
+    assert said[-1] == "reweigh: again: 0 arcs changed, 0 closed, and 0 cut off by these" and arcs_of("again") == arcs
     reweighed("12,0\n")  # (then the toll road is the only one to the rest)
     assert {*domethyme.Network("new", exclude=["toll"]).arcs_frame()["osm"]} == {11}
     heavy = "would have an arc that weighs more than 4294967295"
@@ -299,8 +299,7 @@ def test_refused(tmp_path: pathlib.Path) -> None:
 @pytest.mark.usefixtures("square")
 def test_package() -> None:
     """Rows, frames and files make the same network."""
-    network, rows = domethyme.Network("map"), [(1, 2, 30), (5, 4, 7.5), (8, 9, 1000)]
-    before = arcs_of("map")
+    network, rows, before = domethyme.Network("map"), [(1, 2, 30), (5, 4, 7.5), (8, 9, 1000)], arcs_of("map")
     reweighed("".join(f"{','.join(map(str, row))}\n" for row in rows))
     frame = pandas.DataFrame(rows, columns=["from", "to", "kmh"], index=[9, 8, 7])
     of_places = rows, iter(rows), frame, frame.astype({"from": "Int64", "to": "Int64"})
@@ -308,9 +307,10 @@ def test_package() -> None:
         assert tuple(network.reweigh(speeds, "own")) == (2, 0, 0, [unmatched]) and are_same("own", "new")
     for speeds, changed in (([(11, 35)], 4), (pandas.DataFrame({"kmh": [35.0], "way": [11]}), 4), ([], 0)):
         assert network.reweigh(speeds, "own").changed == changed
-    rows_alone, no_kmh = "speeds have to be rows", frame.assign(kmh=pandas.array([None, 5.5, 9], "Float64"))
+    no_kmh = frame.assign(kmh=pandas.array([None, 5.5, 9], "Float64"))
     for speeds, says in (
-        (np.array(rows), "ids have to be integers"), *((wrong, rows_alone) for wrong in ([(1, 2, 3, 4)], None, [5], [(11, 5), 5])),
+        (np.array(rows), "ids have to be integers"), ([(1 << 63, 5)], "ids have to be from -9"),
+        *((wrong, "speeds have to be rows") for wrong in ([(1, 2, 3, 4)], None, [5], [(11, 5), 5])),
         *((wrong, "kmh isn't from 0 to 1000") for wrong in ([(11, 1001)], [(11, -1)], [(11, np.nan)], no_kmh)),
         (frame.rename(columns={"from": "a"}), "a frame of speeds has to have the columns"), (frame.assign(way=11), "and not both"),
         *((pandas.concat([frame, frame[[name]]], axis=1), f"several columns {name}") for name in frame.columns),
