@@ -59,8 +59,7 @@ def test_keys_come_back(folder):
     assert [domethyme.Network(name).keys().node("farm") for name in ("net", "again")] == [2, 2]
 
 
-def test_files_of_gzip(folder):
-    """Tables, DIMACS files and answers."""
+def test_tables_dimacs_files_and_answers_of_gzip(folder):
     (folder / "x.co").write_text("p aux sp co 3\nv 1 0 0\nv 2 1000 0\nv 3 1000 2000\n")
     graph = (folder / "net.gr").rename("x.gr").read_bytes()
     for name in ("nodes.csv", "arcs.csv", "x.co", "x.gr", "answers"):
@@ -121,6 +120,8 @@ def test_names_of_columns(tmp_path, nodes, arcs, unused):
         ("from,to,weight\ndepot,shop,4294967296\n", ", row 2: weight 4294967296 isn't from 0 to 4294967295"),
         ("from,to,kmh\ndepot,shop,0\n", ", row 2: kmh is 0"),
         ("from,to,seconds\ndepot,shop,1\nshop,depot,1e9\n", ", row 3: would weigh more than 4294967295"),
+        ("from,to,kmh,weight\ndepot,shop,1e-308,5\n", ", row 2: would take more than 1000000000000 seconds"),
+        ("from,to,km,weight\ndepot,shop,1e12,5\n", ", row 2: would have more than 1000000000000 metres"),
         (ARCS.replace(",50", ",-1"), ", row 2: kmh '-1' isn't from 0 to 1e+12; another row is refused too"),
         (ARCS.replace("0\n", "x\n"), ", row 2: kmh '5x' is not a number; 2 other rows are refused too"),
         ("from,to,kmh,oneway\ndepot,shop,50,x\n", ", row 2: oneway 'x' is none of 1, yes, -1, 0, no"),
@@ -131,6 +132,7 @@ def test_names_of_columns(tmp_path, nodes, arcs, unused):
             *((line, f"WKT 'LINESTRING ({line})' has what are no degrees")
               for line in ("0 0, 0 -90.1, 0.001 0", "0 0, 180.1 0, 0.001 0", "0 0, 0 inf", "0 0, nan 0, 1 0")))))),
 ])
+@pytest.mark.filterwarnings("error")
 def test_rows_that_are_refused(tmp_path, nodes, arcs, says):
     (tmp_path / "nodes").write_text(nodes)
     (tmp_path / "arcs").write_text(arcs)

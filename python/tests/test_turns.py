@@ -25,17 +25,16 @@ def crossing(*restrictions):
     return map_text(PLACES, {end: ((end, 1), {"highway": "residential"}) for end in (2, 3, 4, 5)}, more)
 
 
-@pytest.mark.parametrize("starts", [(2, 4), (2,)])
-def test_no_turn(tmp_path, starts):
-    """A crossing where who comes from the west, or from the east too, may not turn north: what is said, and its nodes."""
-    turns = [(start, 3, "no_left_turn") for start in starts]
-    (tmp_path / "map.osm").write_text(crossing(*turns, *[(3, 2, "stop")] * 2))
+@pytest.mark.parametrize("turns, copies", [([(2, 3), (4, 3)], 1), ([(2, 3)], 1), ([(2, 3), (3, 4), (4, 5), (5, 2)], 4)])
+def test_no_turn(tmp_path, turns, copies):
+    """A crossing where who comes from the west, or from the east too, may not turn north, or where nobody may turn left."""
+    (tmp_path / "map.osm").write_text(crossing(*((*turn, "no_left_turn") for turn in turns), *[(3, 2, "stop")] * 2))
     said = run_tool("osm_to_gr", tmp_path / "map.osm", tmp_path / "map", "--tables")[1]
     assert "junctions split by turn restrictions: 1\n" in said
     assert "turn restrictions not looked at: of another kind: 2\n" in said
     # 4 arcs to the crossing lead to 2 nodes each; 4 lead on from where routes begin, and 3 for who may not turn
-    assert f"{tmp_path}/map: 7 nodes, 15 arcs, 0.4 km of road\n" in said
-    assert sorted(node.ends for node in read_rows(tmp_path / "map.nodes.csv")) == ["", "", "", "", "from", "no", "to"]
+    assert f"{tmp_path}/map: {6 + copies} nodes, {12 + 3 * copies} arcs, 0.4 km of road\n" in said
+    assert sorted(node.ends for node in read_rows(tmp_path / "map.nodes.csv")) == [*[""] * 4, "from", *["no"] * copies, "to"]
     rows = (tmp_path / "map.nodes.csv").read_text().splitlines()
     (tmp_path / "older.csv").write_text("\n".join(row.rpartition(",")[0] for row in rows))  # (without the column ends)
     assert {ENDS[each] for each in read_nodes(tmp_path / "older.csv").arrays.columns["node_ends"]} == {""}

@@ -251,9 +251,12 @@ def read_arcs(
     for is_doubted, says in doubts(given, straight, weight):
         doubt(is_doubted, says, path, say)
     lengths = np.where(np.isnan(given[2]), np.round(line_metres(begins, points), 2), given[2])
-    whole, seconds = weights_and_seconds(given, lengths, weight)
-    if whole.max() > MAX_WEIGHT:
-        raise NetworkError(f"would weigh more than {MAX_WEIGHT}", path, int(of_rows[whole.argmax()]))
+    with np.errstate(over="ignore"):
+        whole, seconds = weights_and_seconds(given, lengths, weight)
+    limits = ("weight", whole, "weigh more than {:.0f}"), ("seconds", seconds, "take more than {:.0f} seconds")
+    for name, values, says in (*limits, ("metres", lengths, "have more than {:.0f} metres")):
+        if values.max() > (most := OF_ARCS[name].high or 0):
+            raise NetworkError(f"would {says.format(most)}", path, int(of_rows[values.argmax()]))
     doubt_rows(of_rows, (starts, stops, whole, seconds, lengths), path, say)
     is_fast = (seconds > 0) & (lengths * 3.6 > FASTEST * seconds)
     doubt(is_fast, f"{{}} arcs are faster than {FASTEST:g} km/h: are the units those of --help?", path, say)
