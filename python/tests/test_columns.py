@@ -1,5 +1,4 @@
-"""Tests of the columns of a user's own tables: names, what is refused, keys, and gzip. A thousandth of a degree is 111.195 m along
-the equator."""
+"""Tests of the columns of a user's own tables: names, what is refused, keys, units, and gzip."""
 import csv
 import gzip
 import io

@@ -1,5 +1,4 @@
-"""Networks of one's own: from tables and DIMACS files to the graph, the network and answers. A thousandth of a degree is 111.195 m
-along the equator."""
+"""Networks of one's own, of tables and of DIMACS files. A thousandth of a degree is 111.195 m along the equator."""
 import argparse
 import math
 import os

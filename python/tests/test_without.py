@@ -1,5 +1,4 @@
-"""Networks without some classes of roads: by the model, whose network lacks them, over HTTP and in Python; and ferries and toll
-roads of maps."""
+"""Networks without some classes of roads: by the model, over HTTP and in Python; and ferries and toll roads of maps."""
 import contextlib
 import itertools
 import pathlib
