@@ -241,10 +241,11 @@ def test_ranges_of_bearings(middle: int, away: int, inside: list[int], outside: 
 
 
 def test_roads_of_a_direction_and_a_side(tmp_path: pathlib.Path) -> None:
-    """The nearest road eastwards is found beyond 70 northwards. A place beyond a sharp bend to the left is on its right."""
+    """The nearest road eastwards is found beyond 70 northwards. A place beyond a sharp bend to the left, a point that comes
+    twice, is on its right."""
     steps = [((number * 1e-5, 0.0), (number * 1e-5, 0.001)) for number in range(70)]
     steps += [((0.0, 0.002), (0.001, 0.002)), ((0.0, 0.01), (0.0017, 0.0101))]
-    roads = [Road(2 * row, 2 * row + 1, 9, 9, ((0.002, 0.01),) if row == 71 else ()) for row in range(len(steps))]
+    roads = [Road(2 * row, 2 * row + 1, 9, 9, ((0.002, 0.01),) * 2 if row == 71 else ()) for row in range(len(steps))]
     with prepared([place for step in steps for place in step], roads, tmp_path / "net") as hierarchy:
         east, bend = hierarchy.network.points_on_roads(
             [(0.0003, 0.0005), (0.0021, 0.01002)], bearings=[(90, 5), None], approaches=[None, "curb"]

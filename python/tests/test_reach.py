@@ -36,7 +36,7 @@ def test_copies_of_a_node_count_once():
     here = (0.001, 0.0)
     nodes = [(0, 0), (*here, "from", 7), (*here, "to", 7), (*here, "no", 7), (*here, "", 8), (0.002, 0)]
     net = network(nodes, [Road(start, end, 1000, None) for start, end in ((0, 2), (1, 5), (3, 5), (4, 5))])
-    reach = Reach(net, lengths(net, {0: 0}), [500, 1000])
+    reach = Reach(net, lengths(net, {0: 0}).astype(np.int16), [500, 1000])
     assert reach.node_levels(np.arange(6)).tolist() == [0, 1, 1, 1, 2, 2]
     assert reach.roads(1) == [[(0, 0), (0.001, 0)]]  # the copy from which roads lead isn't reached itself
 

@@ -114,10 +114,10 @@ def is_left(roads: RoadIndex, place: Point, edge: int) -> bool:
     """Whether a place is to the left of an edge: of its nearest segment, or of the mean direction of two at whose common end it is."""
     ways = roads.project(np.array(place), np.array([edge]))
     begins, ends = unit_vectors(*(roads.arrays.points[ways.rows + SEGMENT_END_OFFSETS] / UNITS).transpose(2, 0, 1))
-    steps = ends - begins
-    is_way = steps.any(axis=1)
-    best = int(np.where(is_way, ways.metres, np.inf).argmin())
-    near = [row for row in (best - 1, best, best + 1) if 0 <= row < len(steps) and is_way[row] and ways.metres[row] == ways.metres[best]]
+    is_way = (begins != ends).any(axis=1)  # (without those of no length, which may be between two others)
+    metres, begins, steps = ways.metres[is_way], begins[is_way], (ends - begins)[is_way]
+    best = int(metres.argmin())
+    near = [row for row in (best - 1, best, best + 1) if 0 <= row < len(metres) and metres[row] == metres[best]]
     # (differences of vectors, since these are exact to a nanometre)
     normals = np.cross(begins[near], steps[near])
     normals /= np.linalg.norm(normals, axis=1)[:, None]

@@ -177,7 +177,6 @@ class Vertices(NamedTuple):
         found: Floats = self.points[step] + (self.points[step + 1] - self.points[step]) * part[:, None]
         return found
 
-
     def spaced(self, metres: float) -> "Spaced":
         """Points of the edges, so many metres apart at most, and their first and last points."""
         parts = np.maximum(1, np.ceil(self.metres / metres))
@@ -301,9 +300,10 @@ class Reach:
         towards   whether lengths are those to the starts instead, and what leads there is to be found
         """
         self.network, self.limits, self.towards = network, list(limits), towards
-        self._lengths = np.asarray(lengths)
-        if self._lengths.shape != (len(network.node_lon),) or self._lengths.dtype.kind != "i":
+        values = np.asarray(lengths)
+        if values.shape != (len(network.node_lon),) or values.dtype.kind != "i":
             raise ValueError(f"lengths have to be integers with a sign, one for each of {len(network.node_lon)} nodes")
+        self._lengths = values.astype(np.int64, copy=False)
         if not self.limits or self.limits[0] < 0 or any(low >= high for low, high in zip(self.limits, self.limits[1:])):
             raise ValueError("limits have to be numbers from 0, each greater than the one before")
         if len(self.limits) > MAX_LIMITS:

@@ -182,17 +182,18 @@ class Network:
             yield metres, self.at_curb(place, point, near) if is_curb and point is not None else point
 
     def at_curb(self, place: Point, point: SnappedPoint, near: Sequence[int]) -> SnappedPoint | None:
-        """The point with the arcs for which the place, by the nearest steps, is at the side of vehicles; None for none. On a one-way
-        road, or for a place on its line, any will do."""
+        """The point with the arcs for which the place, by the nearest step, or both at a bend, is at the side of vehicles; None for none.
+        On a one-way road, or for a place on its line, any will do."""
         edge = self.edges[point.edge]
         if abs(point.metres - END_TOLERANCE) < METRES_TOLERANCE:
             raise Ambiguous
         if len(set(edge.arcs.values())) < 2 or point.metres < END_TOLERANCE:
             return point
-        aside = [metres_left(place, edge.line[step], edge.line[step + 1]) for step in near]
-        if min(aside) < 1e-3 and max(aside) > -1e-3:
+        aside = [metres for step in near if (metres := metres_left(place, edge.line[step], edge.line[step + 1]))]
+        is_bend = len(aside) == 2 and near[-1] - near[0] < len(near)
+        if abs(sum(aside)) < 1e-3 or not is_bend and min(aside) < 0 < max(aside):
             raise Ambiguous
-        here = {arc for arc, is_along in edge.arcs.items() if is_along == ((aside[0] > 0) == self.is_left)}
+        here = {arc for arc, is_along in edge.arcs.items() if is_along == ((sum(aside) > 0) == self.is_left)}
         kept = frozenset(here if point.arcs is None else here & point.arcs)
         return point._replace(arcs=kept) if kept else None
 
