@@ -7,7 +7,7 @@ import sys
 
 import numpy as np
 import pytest
-from reach_case import APART, ISLAND, MILLI, Road, lengths, network, town
+from reach_case import MILLI, Road, lengths, network, town_map
 from shapely import vectorized
 from shapely.affinity import scale, translate
 from shapely.geometry import LineString, MultiLineString, MultiPolygon, Point, Polygon, box as rectangle, shape
@@ -25,7 +25,9 @@ BENCH = pathlib.Path(__file__).resolve().parents[2] / "bench"
 
 @pytest.fixture(scope="module")
 def made_town():
-    return town()
+    """The network of the town, and the nodes of its island and of the road apart."""
+    nodes, roads, names = town_map()
+    return network(nodes, roads), names
 
 
 @pytest.fixture(scope="module")
@@ -36,25 +38,19 @@ def made_roads(tmp_path_factory):
     return net_file.read(f"{prefix}.net")
 
 
-def in_plane(reach, polygons):
-    """Polygons in metres."""
-    moved = translate(MultiPolygon(polygons), -reach.plane.origin / UNITS)
-    return scale(moved, reach.plane.east, METRES_OF_DEGREE, origin=(0, 0))
+def in_plane(reach, geometry):
+    """A geometry, or polygons, in metres."""
+    geometry = MultiPolygon(geometry) if isinstance(geometry, list) else geometry
+    return scale(translate(geometry, -reach.plane.origin / UNITS), reach.plane.east, METRES_OF_DEGREE, origin=(0, 0))
 
 
 def misplaced(net, found, reach, limit, contour):
-    """By the lengths alone: how many nodes further than a step from the line are reached and outside, how many aren't
-    reached and are inside, and how many nodes are reached and aren't at all."""
-    area, line = in_plane(reach, contour.polygons), in_plane(reach, contour.polygons).boundary
+    """By the lengths alone the nodes further than a step from the line that are reached and outside, or inside and aren't reached."""
+    area = in_plane(reach, contour.polygons)
     points = reach.plane.of(np.column_stack((net.node_lon[:], net.node_lat[:])))
     is_reached = (found >= 0) & (found <= reach.limits[limit])
-    is_inside = vectorized.contains(area, points[:, 0], points[:, 1])
-    is_wrong = is_reached != is_inside
-    is_wrong[is_wrong] = [line.distance(Point(point)) > contour.step for point in points[is_wrong]]
-    return (
-        np.count_nonzero(is_wrong & is_reached), np.count_nonzero(is_wrong & is_inside),
-        np.count_nonzero(is_reached), np.count_nonzero(~is_reached),
-    )
+    wrong = points[is_reached != vectorized.contains(area, *points.T)]
+    return [point for point in wrong.tolist() if area.boundary.distance(Point(point)) > contour.step]
 
 
 def are_nested(found):
@@ -78,19 +74,18 @@ def test_no_node_of_a_network_is_on_the_wrong_side(made_roads, start, minutes, t
     reach = Reach(made_roads, found, isochrones.limits(made_roads.unit, minutes), towards=towards)
     drawn = contours(reach)
     for limit, contour in enumerate(drawn):
-        outside, inside, reached, others = misplaced(made_roads, found, reach, limit, contour)
-        assert (outside, inside) == (0, 0) and reached > 0 and others > 0
+        assert misplaced(made_roads, found, reach, limit, contour) == []
+        assert 0 < np.count_nonzero((found >= 0) & (found <= reach.limits[limit])) < len(found)
     assert are_nested(drawn)
     check_grids(reach, drawn)
 
 
 def test_island_lake_and_bridge(made_town):
     """The bridge to the island leads one way. What is joined to nothing is never inside, nor is the water of the lake."""
-    net, names = made_town
-    there = [(net.node_lon[node] / UNITS, net.node_lat[node] / UNITS) for node in (*names[ISLAND], *names[APART])]
-    shore = 300
+    net, (island, apart) = made_town
+    there = [(net.node_lon[node] / UNITS, net.node_lat[node] / UNITS) for node in (*island, *apart)]
     for towards, is_island in ((False, True), (True, False)):
-        (contour,) = contours(Reach(net, lengths(net, {shore: 0}, towards), [3_000_000], towards=towards))
+        (contour,) = contours(Reach(net, lengths(net, {300: 0}, towards), [3_000_000], towards=towards))
         area = MultiPolygon(contour.polygons)
         assert [area.contains(Point(point)) for point in there] == [is_island] * 4 + [False] * 2
     middle = np.mean(there[:4], axis=0)
@@ -110,10 +105,11 @@ def test_limits_that_differ_much(made_roads):
         sides = LineString(np.array(mesh.shown)[[[0, 1], [2, 1], [2, 3], [0, 3], [0, 1]]])
         assert in_plane(reach, drawn[2].polygons).boundary.intersection(sides).length < 0.05 * sides.length
     parts = [part for contour in drawn for part in in_plane(reach, contour.polygons).geoms]
-    ends = np.concatenate([segments(ring) for part in parts for ring in rings(part)])
-    counts = []
+    rings = [np.array(ring.coords) for part in parts for ring in (part.exterior, *part.interiors)]
+    ends, counts = np.concatenate([np.stack((ring[:-1], ring[1:]), axis=1) for ring in rings]), []
     for mesh in meshes:
-        within, around = (has_both((mesh.shown or mesh.box).grown(by), ends) for by in (-0.2, 0.2))
+        box = mesh.shown or mesh.box
+        within, around = (box.grown(by).has(ends.reshape(-1, 2)).reshape(-1, 2).all(axis=1) for by in (-0.2, 0.2))
         assert np.hypot(*(ends[within, 1] - ends[within, 0]).T).max(initial=0) < mesh.step
         counts.append(np.count_nonzero(within))
         ends = ends[~around]
@@ -182,19 +178,6 @@ def test_outlines(share):
             assert each.exterior.is_ccw and not any(hole.is_ccw for hole in each.interiors)
 
 
-def has_both(box, ends):
-    return box.has(ends[:, 0]) & box.has(ends[:, 1])
-
-
-def rings(polygon):
-    return [np.array(ring.coords) for ring in (polygon.exterior, *polygon.interiors)]
-
-
-def segments(ring):
-    """Both ends of each segment, of shape (segments, 2, 2)."""
-    return np.stack((ring[:-1], ring[1:]), axis=1)
-
-
 @pytest.fixture(scope="module")
 def drawn_town(made_town):
     """What is reached of the town within four limits, and its contours."""
@@ -214,12 +197,15 @@ def test_generalize(drawn_town, metres):
         line = in_plane(reach, after).boundary
         for some in left:
             (ring,) = [ring for ring in rings if some <= ring]
-            assert max(line.distance(flat(reach, point)) for point in ring) <= metres + 0.001
+            assert max(line.distance(in_plane(reach, Point(point))) for point in ring) <= metres + 0.001
 
 
-def flat(reach, point):
-    """A point in metres."""
-    return Point((point[0] - reach.plane.origin / UNITS) * reach.plane.east, point[1] * METRES_OF_DEGREE)
+@pytest.mark.parametrize("metres, is_left", [(3, True), (5, False)])
+def test_metres_by_which_contours_are_simplified(metres, is_left):
+    """A point 4 m to the east of the line between its neighbours, where a degree is half as long to the east as to the north."""
+    dent = (8 / MILLI / 1000, 60.005)
+    (found,) = contour_shapes.generalized([[Polygon([(0, 60), (0.01, 60), (0.01, 60.01), (0, 60.01), dent])]], metres)
+    assert (dent[1] in np.array(found[0].exterior.coords)) == is_left
 
 
 @pytest.mark.parametrize("turn", range(5))
@@ -231,11 +217,7 @@ def test_lines_part_where_rings_do(turn):
 
 
 def square(west, south, side, *holes):
-    return Polygon([(west, south), (west + side, south), (west + side, south + side), (west, south + side)], holes)
-
-
-def hole(west, south, side):
-    return list(square(west, south, side).exterior.coords)
+    return rectangle(west, south, west + side, south + side).difference(MultiPolygon(holes))
 
 
 @pytest.mark.parametrize("share, inner, outer", [
@@ -245,8 +227,8 @@ def hole(west, south, side):
 def test_denoise(share, inner, outer):
     """Parts and holes that are small beside the largest part go. The lesser contour has parts of 100, 9, and 4 with a hole
     of 1; the greater one has 400 with a hole of 16, in which is a part of 1, and 64."""
-    lesser = [square(1, 1, 10), square(30, 1, 3), square(36, 1, 2, hole(36.5, 1.5, 1))]
-    greater = [square(0, 0, 20, hole(14, 14, 4)), square(15, 15, 1), square(30, 0, 8)]
+    lesser = [square(1, 1, 10), square(30, 1, 3), square(36, 1, 2, square(36.5, 1.5, 1))]
+    greater = [square(0, 0, 20, square(14, 14, 4)), square(15, 15, 1), square(30, 0, 8)]
     found = contour_shapes.denoised([lesser, greater], share)
     assert [sorted((part.area for part in parts), reverse=True) for parts in found] == [inner, outer]
     assert are_nested(found)
@@ -254,22 +236,12 @@ def test_denoise(share, inner, outer):
 
 @pytest.mark.parametrize("lesser, greater, areas", [
     ([square(1, 1, 3), square(31, 1, 3)], [square(0, 0, 20), square(30, 0, 5)], [400, 25]),
-    ([square(1, 1, 2), square(7, 7, 1.5)], [square(0, 0, 20, hole(5, 5, 5)), square(6, 6, 3)], [400]),
+    ([square(1, 1, 2), square(7, 7, 1.5)], [square(0, 0, 20, square(5, 5, 5)), square(6, 6, 3)], [400]),
     ([square(1, 1, 3)], [square(0, 0, 5), square(30, 0, 20)], [400, 25]),
 ])
 def test_a_part_around_one_of_a_lesser_contour_stays(lesser, greater, areas):
     found = contour_shapes.denoised([lesser, greater], 0.5)
     assert sorted((part.area for part in found[1]), reverse=True) == areas and are_nested(found)
-
-
-@pytest.mark.parametrize("change, value", [
-    (contour_shapes.denoised, -0.1), (contour_shapes.denoised, 1.1), (contour_shapes.denoised, float("nan")),
-    (contour_shapes.generalized, -1), (contour_shapes.generalized, float("inf")),
-    (contour_shapes.generalized, float("nan")),
-])
-def test_what_is_no_share_or_length(change, value):
-    with pytest.raises(ValueError):
-        change([[square(0, 0, 1)]], value)
 
 
 # GeoJSON
@@ -290,22 +262,12 @@ def test_features(made_town):
     assert list(plain) == ["type", "features"] and not plain["features"][0]["geometry"]["coordinates"][1:]
     assert found["features"][0]["geometry"]["coordinates"][1:]
     for each, line in zip(found["features"], lines["features"], strict=True):
-        outlines = [ring for polygon in polygons_of(each["geometry"]) for ring in polygon]
-        assert line["geometry"] == multi_geometry("LineString", outlines)
-        assert shape(each["geometry"]).is_valid and each["geometry"]["type"] in ("Polygon", "MultiPolygon")
-        for outer, *holes in polygons_of(each["geometry"]):
-            assert is_counterclockwise(outer) and not any(map(is_counterclockwise, holes))
-            for ring in (outer, *holes):
-                assert len(ring) > 3 and ring[0] == ring[-1]
-                assert all(value == round(value, DECIMALS) for point in ring for value in point)
-
-
-def polygons_of(geometry):
-    return [geometry["coordinates"]] if geometry["type"] == "Polygon" else geometry["coordinates"]
-
-
-def is_counterclockwise(ring):
-    return sum(x * other_y - other_x * y for (x, y), (other_x, other_y) in zip(ring, ring[1:])) > 0
+        whole, polygons = shape(each["geometry"]), each["geometry"]["coordinates"]
+        polygons = [polygons] if each["geometry"]["type"] == "Polygon" else polygons
+        assert whole.is_valid and line["geometry"] == multi_geometry("LineString", [ring for polygon in polygons for ring in polygon])
+        for part in getattr(whole, "geoms", [whole]):
+            assert part.exterior.is_ccw and not any(hole.is_ccw for hole in part.interiors)
+        assert all(value == round(value, DECIMALS) for polygon in polygons for ring in polygon for point in ring for value in point)
 
 
 def test_nothing_is_reached(made_town):
@@ -334,17 +296,6 @@ def test_across_the_180th_meridian():
             assert all(value == round(value, DECIMALS) for part in (west, east) for value in np.ravel(part.exterior.coords))
             whole = MultiPolygon([east, translate(west, 360)]).buffer(1e-9)
             assert translate(plain, lon - 10).symmetric_difference(whole).area < 1e-3 * plain.area
-
-
-@pytest.mark.parametrize("words, says", [
-    (("duration", [], [5]), "aren't a distance: they are durations"),
-    (("distance", [5]), "aren't a time: they are distances"), (("weight", [5]), "aren't a time: they are weights"),
-    (("duration",), "one of both"), (("duration", [1], [1]), "one of both"),
-    (("distance", [], ["5"]), "have to be numbers above 0"), (("duration", [5, 600.5]), "600.5 minutes are too much: there may be"),
-])
-def test_limits_that_are_not_known(words, says):
-    with pytest.raises(ValueError, match=says):
-        isochrones.limits(*words)
 
 
 CROSS = """\
@@ -389,4 +340,4 @@ def test_allowances(far, count, allowance, step):
     arms = MultiLineString([((0, 0), end) for end in ends]).buffer(allowance / MILLI / 1000)
     (outline,) = (Polygon(each.exterior).boundary for each in contour.polygons)
     assert outline.hausdorff_distance(arms.boundary) < 1.1 * step / MILLI / 1000 and contour.step == step
-    assert misplaced(net, found, reach, 0, contour)[:2] == (0, 0)
+    assert misplaced(net, found, reach, 0, contour) == []

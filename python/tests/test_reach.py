@@ -95,16 +95,9 @@ def test_what_cannot_be_reached(row, starts, limit, says):
     assert isinstance(caught.value, domethyme.NoSuchNode) == (starts == [6])
 
 
-def give_another_inode(path):
-    shutil.copy2(path, f"{path}.new")
-    os.replace(f"{path}.new", path)
-
-
-def give_another_time(path):
-    os.utime(path, ns=(0, path.stat().st_mtime_ns + 1))
-
-
-@pytest.mark.parametrize("change", [give_another_inode, give_another_time])
+@pytest.mark.parametrize("change", [
+    lambda path: os.replace(shutil.copy2(path, f"{path}.new"), path), lambda path: os.utime(path, ns=(0, path.stat().st_mtime_ns + 1))
+], ids=["inode", "time"])
 @pytest.mark.parametrize("ask, why", [
     (lambda each: pickle.loads(pickle.dumps(each)).length("a", "c"), "no other process can read it again"),
     (lambda each: each.reach(["c"], towards=True)["a"], "it can't be turned round"),
@@ -136,45 +129,46 @@ def test_an_older_library(row, monkeypatch):
 
 @pytest.fixture(scope="module")
 def made_town(tmp_path_factory):
-    nodes, roads, _ = town_map()
-    with prepared(nodes, roads, tmp_path_factory.mktemp("town") / "town") as hierarchy:
+    with prepared(*town_map()[:2], tmp_path_factory.mktemp("town") / "town") as hierarchy:
         yield hierarchy
 
 
-@pytest.mark.parametrize("form, kinds, towards", [
-    ("polygons", {"Polygon", "MultiPolygon"}, False), ("lines", {"LineString", "MultiLineString"}, False),
-    ("roads", {"MultiLineString"}, False), ("polygons", {"Polygon", "MultiPolygon"}, True), ("roads", {"MultiLineString"}, True),
-])
-def test_within(made_town, form, kinds, towards):
-    """What features makes of scipy's lengths, and each contour within the next."""
+@pytest.mark.parametrize("form, towards", [("polygons", False), ("polygons", True), ("lines", False), ("roads", False), ("roads", True)])
+def test_within(made_town, form, towards):
+    """What features makes of the model's lengths, and each contour within the next."""
     at, net = (float(made_town.network.lon[300]), float(made_town.network.lat[300])), made_town.network.roads.arrays
     found = made_town.within(at, [0.5, 1, 1.5], shape=form, towards=towards)
     reach = Reach(net, lengths(net, {300: 0}, towards), [30_000, 60_000, 90_000], towards=towards)
     assert found == features(reach, [0.5, 1, 1.5], "time", isochrones.Style(form, attribution="© the town"))
-    assert {each["geometry"]["type"] for each in found["features"]} <= kinds
+    large, middle, small = (shape(each["geometry"]) for each in found["features"])
+    assert {each.geom_type.removeprefix("Multi") for each in (large, middle, small)} == {"Polygon" if form == "polygons" else "LineString"}
     if form == "polygons":
-        large, middle, small = (shape(each["geometry"]) for each in found["features"])
         assert large.is_valid and large.covers(middle) and middle.covers(small) and small.contains(Point(at))
 
 
-@pytest.mark.parametrize("place, words, error, says", [
-    ((0, 2), {}, domethyme.NoSuchNode, "no road within 1000 m"), ((0, 91), {}, ValueError, "swapped"),
-    ((0, float("nan")), {}, ValueError, "degrees"), ((0, 0, 0), {}, ValueError, "lon, lat"), ([], {}, ValueError, "a place or more"),
-    ((0, 0), {"minutes": [5, 3]}, ValueError, "greater than the one before"),
-    ((0, 0), {"metres": [5]}, ValueError, "aren't a distance"),
-    ((0, 0), {"minutes": [5], "metres": [5]}, ValueError, "one of both"), ((0, 0), {"minutes": [1e300]}, ValueError, "too much"),
-    ((0, 0), {"colors": ["red"] * 3}, ValueError, "hexadecimal"),
-    ((0, 0), {"colors": ["ff0000"]}, ValueError, "3 limits, and 3 numbers and 1 colours"),
-    ((0, 0), {"colors": 5}, ValueError, "hexadecimal"), ((0, 0), {"colors": [5, 5, 5]}, ValueError, "hexadecimal"),
-    ((0, 0), {"generalize": "x"}, ValueError, "generalize"), ((0, 0), {"denoise": "x"}, ValueError, "denoise"),
-    ((0, 0), {"denoise": 2}, ValueError, "denoise has .* 2"), ((0, 0), {"generalize": -1}, ValueError, "generalize has .* -1"),
-    ((0, 0), {"minutes": [float("nan")]}, ValueError, "above 0"), ((0, 0), {"minutes": [0, 1]}, ValueError, "above 0"),
-    ((0, 0), {"minutes": [float("inf")]}, ValueError, "above 0"),
-    ((0, 0), {"shape": "circles"}, ValueError, "polygons, lines, roads, and is 'circles'"),
+@pytest.mark.parametrize("words, says", [
+    ({"place": (0, 2)}, "no road within 1000 m"), ({"place": (0, 91)}, "swapped"), ({"place": (0, float("nan"))}, "degrees"),
+    ({"place": (0, 0, 0)}, "lon, lat"), ({"place": []}, "a place or more"), ({"minutes": [5, 3]}, "greater than the one before"),
+    ({"metres": [5]}, "aren't a distance: they are durations"), ({"minutes": [5], "metres": [5]}, "one of both"),
+    ({"minutes": [1e300]}, "too much"), ({"minutes": [5, 600.5]}, "600.5 minutes are too much: there may be 600"),
+    ({"minutes": [float("nan")]}, "above 0"), ({"minutes": [0, 1]}, "above 0"), ({"minutes": [float("inf")]}, "above 0"),
+    ({"metres": ["5"]}, "above 0"), ({"colors": ["ff00000"] * 3}, "hexadecimal"), ({"colors": ["#ff000"] * 3}, "hexadecimal"),
+    ({"colors": ["ff0000"]}, "3 limits, and 3 numbers and 1 colours"), ({"colors": 5}, "hexadecimal"), ({"colors": [5] * 3}, "hexadecimal"),
+    *(({name: wrong}, f"{name} has .* {wrong}$") for name in ("denoise", "generalize") for wrong in (-0.1, "x", float("nan"), float("inf"))),
+    ({"denoise": 1.1}, "denoise has .* 1.1"), ({"shape": "circles"}, "polygons, lines, roads, and is 'circles'"),
 ])
-def test_arguments_that_are_refused(row, place, words, error, says):
-    with pytest.raises(error, match=says):
-        row.within(place, **words)
+def test_arguments_that_are_refused(row, words, says):
+    with pytest.raises(ValueError, match=says) as caught:
+        row.within(**{"place": (0, 0), **words})
+    assert isinstance(caught.value, domethyme.NoSuchNode) == (words == {"place": (0, 2)})
+
+
+@pytest.mark.parametrize("words, says", [
+    (("distance", [5]), "aren't a time: they are distances"), (("weight", [5]), "aren't a time: they are weights"), (("duration",), "one of both"),
+])
+def test_limits_that_are_not_known(words, says):
+    with pytest.raises(ValueError, match=says):
+        isochrones.limits(*words)
 
 
 def test_without_a_network(row):

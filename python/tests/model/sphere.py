@@ -1,4 +1,5 @@
 """Places on a sphere, and lines of great circles between them, each the shorter way round."""
+import itertools
 import math
 from collections.abc import Sequence
 
@@ -8,7 +9,7 @@ Vector = tuple[float, float, float]
 
 
 def vector(point: Point) -> Vector:
-    lon, lat = math.radians(point[0]), math.radians(point[1])
+    lon, lat = map(math.radians, point)
     return math.cos(lat) * math.cos(lon), math.cos(lat) * math.sin(lon), math.sin(lat)
 
 
@@ -17,7 +18,6 @@ def angle(one: Vector, other: Vector) -> float:
 
 
 def metres_between(one: Point, other: Point) -> float:
-    """The metres along the great circle."""
     return EARTH_RADIUS * angle(vector(one), vector(other))
 
 
@@ -34,11 +34,8 @@ def interpolate(begin: Point, end: Point, share: float) -> Point:
     """The point at a share of the way from one to another."""
     one, other = vector(begin), vector(end)
     whole = angle(one, other)
-    if whole == 0:
-        return begin
-    before, behind = math.sin((1 - share) * whole), math.sin(share * whole)
-    x, y, z = (a * before + b * behind for a, b in zip(one, other))
-    return math.degrees(math.atan2(y, x)), math.degrees(math.atan2(z, math.hypot(x, y)))
+    x, y, z = (a * math.sin((1 - share) * whole) + b * math.sin(share * whole) for a, b in zip(one, other))
+    return (math.degrees(math.atan2(y, x)), math.degrees(math.atan2(z, math.hypot(x, y)))) if whole else begin
 
 
 def nearest_on_segment(place: Point, begin: Point, end: Point) -> tuple[float, float]:
@@ -47,22 +44,21 @@ def nearest_on_segment(place: Point, begin: Point, end: Point) -> tuple[float, f
     ends = min((EARTH_RADIUS * angle(here, one), 0.0), (EARTH_RADIUS * angle(here, other), 1.0))
     if one == other:
         return ends[0], 0.0
-    across = cross(one, other)
+    across, whole = cross(one, other), angle(one, other)
     aside = dot(here, across) / dot(across, across)
     x, y, z = (a - aside * b for a, b in zip(here, across))
     size = math.hypot(x, y, z)
     foot = x / size, y / size, z / size
-    whole, gone = angle(one, other), math.copysign(angle(one, foot), dot(cross(one, foot), across))
+    gone = math.copysign(angle(one, foot), dot(cross(one, foot), across))
     return min(ends, (EARTH_RADIUS * angle(here, foot), gone / whole)) if 0 < gone < whole else ends
 
 
 def metres_left(place: Point, begin: Point, end: Point) -> float:
     """How far a place is to the left of a great circle from one point to another; 0 where these are one."""
     here = vector(begin)
-    along, aside = ((x - here[0], y - here[1], z - here[2]) for x, y, z in (vector(end), vector(place)))
+    along, aside = ((x - here[0], y - here[1], z - here[2]) for x, y, z in map(vector, (end, place)))
     across = cross(here, along)
-    size = math.sqrt(dot(across, across))
-    return EARTH_RADIUS * dot(across, aside) / size if size else 0.0
+    return EARTH_RADIUS * dot(across, aside) / (math.hypot(*across) or 1.0)
 
 
 def bearing(begin: Point, end: Point) -> float:
@@ -73,10 +69,7 @@ def bearing(begin: Point, end: Point) -> float:
 
 def along(line: Sequence[Point]) -> list[float]:
     """The metres along a line before each of its points."""
-    found = [0.0]
-    for begin, end in zip(line, line[1:]):
-        found.append(found[-1] + metres_between(begin, end))
-    return found
+    return [*itertools.accumulate((metres_between(*step) for step in itertools.pairwise(line)), initial=0.0)]
 
 
 def clip(line: Sequence[Point], low: float, high: float) -> list[Point]:
