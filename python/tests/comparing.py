@@ -6,7 +6,7 @@ from typing import Any, NamedTuple
 
 from model.network import Network, SnappedPoint
 from model.reach import is_within, reached
-from model.sphere import EARTH_RADIUS, Point, nearest_on_segment
+from model.sphere import EARTH_RADIUS, Point, nearest_on_segment, point_at
 
 Points = Sequence[Point]
 TOLERANCES = {"polyline": 6.5e-6, "polyline6": 8.5e-7, "geojson": 8.5e-7}
@@ -247,8 +247,9 @@ class Contour(NamedTuple):
         return False
 
     def probes(self) -> list[Point]:
-        """Places over the box of a network and some way around it."""
+        """Places on the roads of a network, and over its box and some way around it."""
+        on_roads = [point_at(edge.line, share / 8) for edge in self.network.edges for share in (1, 4, 7)]
         lons, lats = zip(*(point for edge in self.network.edges for point in edge.line))
         wide, high = max(lons) - min(lons) + 0.008, max(lats) - min(lats) + 0.008
         steps = range(1, 30, 3)
-        return [(min(lons) - 0.004 + wide * (5 * step % 13) / 13, min(lats) - 0.004 + high * step / 30) for step in steps]
+        return on_roads + [(min(lons) - 0.004 + wide * (5 * step % 13) / 13, min(lats) - 0.004 + high * step / 30) for step in steps]

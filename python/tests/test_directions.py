@@ -12,8 +12,8 @@ from unittest import mock
 import numpy as np
 import pandas
 import pytest
-from comparing import difference, is_same_line
-from draws import Drawn, drawn, networks, places, write_network
+from comparing import difference, is_same_line, rings_of
+from draws import Drawn, drawn, networks, places, run_tool, write_network
 from hypothesis import given
 from hypothesis import strategies as st
 from model.alternatives import alternatives as every_alternative
@@ -21,7 +21,7 @@ from model.answers import Refused, figures, leg_line, straight_legs
 from model.network import Ambiguous, Arc, Network, Node
 from reach_case import Road, prepared
 from test_generated_service import ask, open_service
-from tool_case import VILLAGE, ToolCase
+from tool_case import VILLAGE
 
 import domethyme
 from domethyme import batch, tours
@@ -37,36 +37,32 @@ SETTINGS = list(itertools.product((True, False), ("any", "first"), ("any", "last
 @given(st.data())
 def test_as_the_model(data: Any) -> None:
     made = data.draw(networks())
-    spots = data.draw(places(made.roads, 5))
-    some = st.sampled_from([None, None, (0, 60), (90, 20), (270, 180), (360, 0)])
-    bearings = data.draw(st.lists(some, min_size=len(spots), max_size=len(spots)))
-    approaches = data.draw(st.lists(st.sampled_from([None, "unrestricted", "curb"]), min_size=len(spots), max_size=len(spots)))
-    radiuses = data.draw(st.lists(st.sampled_from([None, 60.5, math.inf]), min_size=len(spots), max_size=len(spots)))
-    if data.draw(st.integers(0, 4)) == 0:
-        radiuses[data.draw(st.integers(0, len(spots) - 1))] = data.draw(st.sampled_from([0, 2]))
+    spots = data.draw(places(made.roads, data.draw(st.sampled_from([1, 2, 3, 4]))))
+
+    def for_each(*words: Any) -> Any:
+        return data.draw(st.lists(st.sampled_from(words), min_size=len(spots), max_size=len(spots)))
+
+    bearings, approaches = for_each(*[None] * 9, (0, 60), (90, 20), (270, 180), (360, 0)), for_each(None, "unrestricted", "curb")
+    radiuses, snapping = for_each(*[None, 600.5, math.inf] * 12, 0, 2), data.draw(st.sampled_from(["default", "any"]))
+    options: Any = {"bearings": bearings, "radiuses": radiuses, "approaches": approaches, "snapping": snapping}
     words = data.draw(st.sampled_from([(), ("--attribution", "© the town")]))
     with tempfile.TemporaryDirectory() as folder, mock.patch.object(directions, "NODE_CELLS", 8):  # (so that tables come in parts)
         write_network(made, pathlib.Path(folder) / "net", *words)
         hierarchy = domethyme.Hierarchy(f"{folder}/net.rch", network=f"{folder}/net")
-        options: Any = {"bearings": bearings, "radiuses": radiuses, "approaches": approaches, "snapping": data.draw(st.sampled_from(["default", "any"]))}
         try:
-            rows = zip(spots, radiuses, bearings, approaches)
             points = [
-                made.roads.snap(spot, 1000.0 if radius is None else radius, each, side == "curb", options["snapping"] == "any")
-                for spot, radius, each, side in rows
+                made.roads.snap(spot, 1000.0 if radius is None else radius, each, side == "curb", snapping == "any")
+                for spot, radius, each, side in zip(spots, radiuses, bearings, approaches)
             ]
+            legs = {pair: made.roads.legs(*pair) for pair in itertools.product(points, repeat=2)} if all(points) else {}
         except Ambiguous:
             return
-        if None in points:
+        if not all(points):
             with pytest.raises(domethyme.NoSuchNode) as raised:
                 hierarchy.network.points_on_roads(spots, **options)
             assert raised.value.key == points.index(None)
             return
         snapped = hierarchy.network.points_on_roads(spots, **options)
-        try:
-            legs = {pair: made.roads.legs(*pair) for pair in itertools.product(points, repeat=2)}
-        except Ambiguous:
-            return
         weights = [[least_weight(legs[start, end]) for end in points] for start in points]
         table = hierarchy.table(snapped, snapped[::-1])
         assert table.tolist() == [[-1 if weight is None else weight for weight in row[::-1]] for row in weights]
@@ -278,14 +274,13 @@ def check_directions(roads: Any, found: Any, points: Any, legs: Any, stops: list
         ]
         assert fits, (leg, options[first:last])
         assert any(are_steps(roads, leg.steps, whole) for whole in fits)
-    one_each = [choices[0] for choices in options]
-    if all(len(choices) == 1 for choices in options):
-        assert not difference({"seconds": found.seconds, "metres": found.metres}, in_seconds(figures(roads, *one_each)))
+    if math.prod(map(len, options)) == 1:
+        whole = in_seconds(figures(roads, *(choices[0] for choices in options)))
+        assert not difference({"seconds": found.seconds, "metres": found.metres}, whole)
     feature, line = found.geojson(), [point for point, _ in itertools.groupby(point for leg in found.legs for point in leg.line)]
     assert feature == found.__geo_interface__ and found.line == (line if len(line) > 1 else line * 2)
-    several = feature["geometry"]["type"] == "MultiLineString"
-    shown = [*itertools.chain(*feature["geometry"]["coordinates"])] if several else feature["geometry"]["coordinates"]
-    assert [point for point in shown if abs(point[0]) < 180] == [list(point) for point in found.line if abs(point[0]) < 180]
+    shown = [point for part in rings_of(feature["geometry"]) for point in part if abs(point[0]) < 180]
+    assert shown == [point for point in found.line if abs(point[0]) < 180]
     more = {"attribution": found.attribution} if found.attribution else {}
     assert feature["properties"] == {"weight": found.weight, "seconds": found.seconds, "metres": found.metres, **more}
     assert found.steps == [step for leg in found.legs for step in leg.steps]
@@ -368,15 +363,17 @@ def test_long_tours(against: int) -> None:
 
 
 def test_radius_and_ferries(tmp_path: pathlib.Path) -> None:
-    """All calls between places take a radius, and places on ferries where that is said."""
-    line = (0.0, 0.0), (0.01, 0.0)
+    """All calls between places take a radius, and places on ferries where that is said, here over the 180th meridian; those of roads also
+    with directions and sides."""
+    line = (179.995, 0.0), (-179.995, 0.0)
     arcs = [Arc(start, 1 - start, 7, 0.0, 9.0, line[:: 1 - 2 * start], 1, highway="ferry") for start in (0, 1)]
     roads = Network([Node(*place) for place in line], arcs)
     write_network(Drawn(roads, roads, False), tmp_path / "net")
     with domethyme.Hierarchy(tmp_path / "net.rch", network=tmp_path / "net") as hierarchy:
-        places = [(0.002, 0.011), (0.009, 0.0)]
+        places, near = [(179.997, 0.011), (-179.996, 0.0)], hierarchy.network.points_on_roads
         to_places = functools.partial(hierarchy.table, places[1:])
-        for call in (hierarchy.directions, hierarchy.table, to_places, hierarchy.tour, hierarchy.alternatives):
+        aside = (functools.partial(near, **{word: [each] * 2}) for word, each in (("bearings", (90, 20)), ("approaches", "curb")))
+        for call in (hierarchy.directions, hierarchy.table, to_places, hierarchy.tour, hierarchy.alternatives, near, *aside):
             for words in ({"radius": 1300}, {"snapping": "any"}, {"radius": 1200, "snapping": "any"}):
                 with pytest.raises(domethyme.NoSuchNode):
                     call(places, **words)
@@ -403,62 +400,71 @@ def test_places_beyond_the_search() -> None:
     assert found == sorted(found, reverse=True) and found[-1] < found[0]
 
 
-class FramesTests(ToolCase):
-    def test_frames_and_refusals(self) -> None:
-        self.run_tool("osm_to_gr", VILLAGE, "v", "--keep-islands")
-        domethyme.prepare(self.folder / "v.gr", self.folder / "v.rch").close()
-        hierarchy = domethyme.Hierarchy(self.folder / "v.rch", network=self.folder / "v")
-        network = hierarchy.network
-        places = [(float(network.lon[node]), float(network.lat[node])) for node in (0, 3, 5)]
-        rows = [(lat, "x", lon) for lon, lat in places]
-        frame = pandas.DataFrame(rows, columns=["lat", "name", "lon"], index=["depot", "shop", "farm"])
-        rows = hierarchy.table(places)
-        for sums, what in (((), "lengths"), (["metres"], "sums")):
-            says = f"v.rch: a table of .* {what}"
-            with mock.patch.object(batch, "MAX_CELLS", 3), pytest.raises(domethyme.OutOfMemory, match=says):
-                hierarchy.table(places, sums=sums)
-        assert hierarchy.table(frame, frame.iloc[:2]).to_numpy().tolist() == rows[:, :2].tolist()
-        names, sides = [*frame.index], ((places[:2], frame), (frame.iloc[1:], places), (frame,), (frame, frame[:2]))
-        axes = [[*map(list, hierarchy.table(*side).axes)] for side in sides]
-        assert axes == [[[0, 1], names], [names[1:], [0, 1, 2]], [names, names], [names, names[:2]]]
-        apart = pandas.DataFrame([*places[:2], (0.0203, 0.005)], columns=["lon", "lat"])
-        rows = hierarchy.table(apart.to_numpy())
-        for missing in (-5, math.inf):
-            tables = [hierarchy.table(apart, missing=missing), *hierarchy.table(apart, missing=missing, sums=["metres"]).values()]
-            assert all(each.to_numpy().tolist() == np.where(rows < 0, missing, rows).tolist() for each in tables[:2])
-            assert (rows < 0).any() and ((tables[2] == missing) == (rows < 0)).all(axis=None)
-        assert hierarchy.directions(frame) == hierarchy.directions(places) == hierarchy.directions(np.array(places))
-        assert hierarchy.directions(places[:1] * 2).line == places[:1] * 2
-        for wrong, says in (
-            (places[:1], "two places or more"), ([(1, 2, 3)], "rows (lon, lat)"), (frame.rename(columns={"lon": "x"}), "columns lon and lat"),
-            (frame.assign(lon=pandas.array([9.5, None, 9.5], "Float64")), "some are missing"),
-            (pandas.concat([frame, frame["lon"]], axis=1), "columns lon and lat, each once"),
-            ([], "a place or more"), ([(200, 0)] * 2, "lon has to be from -180"), ([places[0], (0.0, 80.0)], "no road within 1000 m"),
-        ):
-            with pytest.raises(ValueError, match=re.escape(says)):
-                hierarchy.directions(wrong)
-        with pytest.raises(ValueError, match="one for each place"):
-            hierarchy.directions(places, bearings=[(0, 10)])
-        for words in ({"radius": "5"}, {"radius": True}, {"radius": None}, {"radius": math.nan}, {"radiuses": [math.nan, None, None]}):
-            for act in (hierarchy.directions, hierarchy.table, lambda _, radius: hierarchy.nearest(*places[0], radius=radius)):
-                with pytest.raises(ValueError, match="radius.* to be numbers, and one is"):
-                    (hierarchy.directions if "radiuses" in words else act)(places, **words)
-        with pytest.raises(ValueError, match="approaches are .unrestricted. or .curb., and not .left."):
-            hierarchy.directions(places, approaches=["left", None, "curb"])
-        with pytest.raises(ValueError, match="a bearing is"):
-            hierarchy.directions(places, bearings=[(400, 10), None, None])
-        for stops in ([], [0, 1], [1, 2], [0, 2, 1, 2], [0, 1, 1, 2], [0, 3], [0, 2.0], [0, None], 2):
-            with pytest.raises(ValueError, match="waypoints have to be numbers of places that rise from 0 to the last, 2"):
-                hierarchy.directions(places, waypoints=stops)
-        assert [leg.weight for leg in hierarchy.directions(places, waypoints=[0, 2]).legs] == [hierarchy.directions(places).weight]
-        with pytest.raises(ValueError, match="source has to be"):
-            hierarchy.tour(places, source="last")
-        with pytest.raises(ValueError, match="1 to 500 places"):
-            hierarchy.tour(places * 200)
-        assert hierarchy.tour(places[:1], roundtrip=False).order == hierarchy.tour(places[:1]).order == [0]
-        with mock.patch.object(tours, "MAX_PLACES", 2):
-            assert hierarchy.tour(places[:2], roundtrip=False) is not None
-            with pytest.raises(ValueError, match="has 1 to 2 places, and not 3"):
-                hierarchy.tour(places)
-        with pytest.raises(ValueError, match="no network"):
-            domethyme.Hierarchy(self.folder / "v.rch").directions(places)
+@pytest.fixture(scope="module")
+def village(tmp_path_factory: pytest.TempPathFactory) -> Any:
+    folder = tmp_path_factory.mktemp("village")
+    run_tool("osm_to_gr", VILLAGE, folder / "v", "--keep-islands")
+    domethyme.prepare(folder / "v.gr", folder / "v.rch").close()
+    with domethyme.Hierarchy(folder / "v.rch", network=folder / "v") as hierarchy:
+        yield hierarchy
+
+
+PLACES = [(0.0, 0.0), (0.003, 0.0), (0.005, 0.0)]
+FRAME = pandas.DataFrame([(lat, "x", lon) for lon, lat in PLACES], columns=["lat", "name", "lon"], index=["depot", "shop", "farm"])
+
+
+def test_frames(village: Any) -> None:
+    """A side that is a frame, or geopandas' points, has its index in the table."""
+    rows = village.table(PLACES)
+    assert village.table(FRAME, FRAME.iloc[:2]).to_numpy().tolist() == rows[:, :2].tolist()
+    names, sides = [*FRAME.index], ((PLACES[:2], FRAME), (FRAME.iloc[1:], PLACES), (FRAME,), (FRAME, FRAME[:2]))
+    axes = [[*map(list, village.table(*side).axes)] for side in sides]
+    assert axes == [[[0, 1], names], [names[1:], [0, 1, 2]], [names, names], [names, names[:2]]]
+    apart = pandas.DataFrame([*PLACES[:2], (0.0203, 0.005)], columns=["lon", "lat"])
+    rows = village.table(apart.to_numpy())
+    for missing in (-5, math.inf):
+        tables = [village.table(apart, missing=missing), *village.table(apart, missing=missing, sums=["metres"]).values()]
+        assert all(each.to_numpy().tolist() == np.where(rows < 0, missing, rows).tolist() for each in tables[:2])
+        assert (rows < 0).any() and ((tables[2] == missing) == (rows < 0)).all(axis=None)
+    assert village.directions(FRAME) == village.directions(PLACES) == village.directions(np.array(PLACES))
+    assert village.directions(PLACES[:1] * 2).line == PLACES[:1] * 2
+    assert [leg.weight for leg in village.directions(PLACES, waypoints=[0, 2]).legs] == [village.directions(PLACES).weight]
+    assert village.tour(PLACES[:1], roundtrip=False).order == village.tour(PLACES[:1]).order == [0]
+
+
+@pytest.mark.parametrize("places, words, says", [
+    (PLACES[:1], {}, "two places or more"), ([(1, 2, 3)], {}, r"rows \(lon, lat\)"), ([], {}, "a place or more"),
+    (FRAME.rename(columns={"lon": "x"}), {}, "columns lon and lat"), (pandas.concat([FRAME, FRAME["lon"]], axis=1), {}, "lon and lat, each once"),
+    (FRAME.assign(lon=pandas.array([9.5, None, 9.5], "Float64")), {}, "some are missing"), ([(200, 0)] * 2, {}, "lon has to be from -180"),
+    ([PLACES[0], (0.0, 80.0)], {}, "no road within 1000 m"), (PLACES, {"radiuses": [math.nan, None, None]}, "radius.* to be numbers, and one is"),
+    (PLACES, {"bearings": [(0, 10)]}, "one for each place"), (PLACES, {"bearings": [(400, 10), None, None]}, "a bearing is"),
+    (PLACES, {"approaches": ["left", None, "curb"]}, "approaches are .unrestricted. or .curb., and not .left."),
+    *((PLACES, {"waypoints": stops}, "waypoints have to be numbers of places that rise from 0 to the last, 2") for stops in (
+        [], [0, 1], [1, 2], [0, 2, 1, 2], [0, 1, 1, 2], [0, 3], [0, 2.0], [0, None], 2
+    )),
+])
+def test_what_is_refused(village: Any, places: Any, words: dict[str, Any], says: str) -> None:
+    with pytest.raises(ValueError, match=says):
+        village.directions(places, **words)
+
+
+def test_limits_of_tables_and_tours(village: Any) -> None:
+    for sums, what in (((), "lengths"), (["metres"], "sums")):
+        with mock.patch.object(batch, "MAX_CELLS", 3), pytest.raises(domethyme.OutOfMemory, match=f"v.rch: a table of .* {what}"):
+            village.table(PLACES, sums=sums)
+
+    def nearest(spots: Any, radius: Any) -> Any:
+        return village.nearest(*spots[0], radius=radius)
+
+    for act, radius in itertools.product((village.directions, village.table, nearest), ("5", True, None, math.nan)):
+        with pytest.raises(ValueError, match="radius.* to be numbers, and one is"):
+            act(PLACES, radius=radius)
+    for places, words, says in ((PLACES, {"source": "last"}, "source has to be"), (PLACES * 200, {}, "1 to 500 places")):
+        with pytest.raises(ValueError, match=says):
+            village.tour(places, **words)
+    with mock.patch.object(tours, "MAX_PLACES", 2):
+        assert village.tour(PLACES[:2], roundtrip=False) is not None
+        with pytest.raises(ValueError, match="has 1 to 2 places, and not 3"):
+            village.tour(PLACES)
+    with domethyme.Hierarchy(village.path) as alone, pytest.raises(ValueError, match="no network"):
+        alone.directions(PLACES)

@@ -136,7 +136,7 @@ def check_match(hierarchy: domethyme.Hierarchy, request: Request, found: Any) ->
 @given(st.data())
 def test_isochrones(data: Any) -> None:
     """Not beside a pole, where the plane that contours are drawn in isn't the earth."""
-    made = data.draw(networks(["duration", "distance", "duration", "distance", "weight"], most=5, origins=[ORIGINS[0], ORIGINS[3]]))
+    made = data.draw(networks(["duration", "distance"] * 4 + ["weight"], most=5, origins=[ORIGINS[0], ORIGINS[3]]))
     with tempfile.TemporaryDirectory() as folder:
         service = serve(made, pathlib.Path(folder))
         for _ in range(2):
@@ -147,8 +147,7 @@ def test_isochrones(data: Any) -> None:
             limits = {"contours_minutes": ["0.02,0.5", "1,2", "0.1", "1,2,3,4"], "contours_meters": ["50,300", "700"]}
             unit = data.draw(st.sampled_from([*[made.roads.unit] * 9, "duration", "distance"]))
             own = "contours_minutes" if unit == "duration" else "contours_meters"
-            text, code = data.draw(st.sampled_from([*((text, "") for text in 9 * limits[own]), *((text, "InvalidValue") for text in (*LIMITS, *WRONG))]))
-            check(made, service, request._replace(query={own: text, **request.query}), codes | ({code} - {""}))
+            check(made, service, request._replace(query={own: data.draw(st.sampled_from(limits[own])), **request.query}), codes)
 
 
 @drawn(8)

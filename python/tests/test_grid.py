@@ -8,13 +8,12 @@ import re
 
 import numpy as np
 import pytest
-from draws import Drawn, drawn, write_network
+from draws import Drawn, drawn, run_tool, write_network
 from hypothesis import given
 from hypothesis import strategies as st
 from model import sphere
 from model.network import Arc, Network, Node
-from reach_case import MILLI, Road, arrays, network
-from tool_case import ToolCase
+from reach_case import MILLI, Road, arrays, network, prepared
 
 from domethyme.network import grid, parallel, zoom_levels
 from domethyme.network.geo import metres_between
@@ -221,54 +220,20 @@ def test_cells_hold_their_places():
     assert keys.tolist() == [(36000 << 32) + 143998, 36000 << 32, (36000 << 32) + 143998]
 
 
-class MeridianTests(ToolCase):
-    """A road of two kinds over the 180th meridian: 179.998 to -179.998 are 444.78 m."""
-
-    def setUp(self):
-        super().setUp()
-        self.write("n.csv", "node,lon,lat\nwest,179.998,0\neast,-179.998,0\nfar,-179.9,0\n")
-        self.write("a.csv", "from,to,kmh,name\nwest,east,50,Date Line\neast,west,50,Date Line\neast,far,50,\n")
-        self.run_tool("to_network", "n.csv", "a.csv", "net")
-        self.roads = RoadIndex(str(self.folder / "net"))
-
-    def test_tiles(self):
-        """The road is drawn at the sides of the world, as long as it is, and nowhere between; the box is narrow."""
-        tiles = Tiles(self.roads.arrays)
-        self.assertEqual(tiles.about["box"], [179.998, 0, 180.1, 0])
-        drawn = {(x, y) for x in range(32) for y in range(32) if tiles.tile(5, x, y) != b'{"roads":[]}'}
-        self.assertTrue(drawn and all(x in (0, 31) for x, _ in drawn), drawn)
-        # a tile of zoom 15 is 1223 m wide: 444.78 m are 372 of its 1024 parts
-        lines = [
-            line for x in (0, 32767) for road in json.loads(tiles.tile(15, x, 16384))["roads"] for line in road["lines"]
-        ]
-        self.assertEqual(len(lines), 1)
-        x, y, east, south = lines[0]
-        self.assertEqual((y, abs(east), south), (0, 372, 0))
-        self.assertTrue(-1024 <= x <= 2048, x)
-        # One whose middle is on the other side than where it begins. The tile begins at 179.989014 and is 0.010986 degrees wide, so its
-        # ends are 1117 and 92 parts from there, and 93 from the equator.
-        self.write("n.csv", "lon,lat\n179.99,-0.001\n-179.999,-0.001\n")
-        self.write("a.csv", "from,to,weight\n1,2,3\n")
-        self.run_tool("to_network", "n.csv", "a.csv", "other")
-        roads = json.loads(Tiles(RoadIndex(str(self.folder / "other")).arrays).tile(15, 32767, 16384))["roads"]
-        self.assertEqual(roads[0]["lines"], [[1117, 93, -1025, 0]])
-
-    def test_from_answers_to_a_picture(self):
-        lines = self.run_tool("to_geojson", "net", self.write("a", "r 1 2 32024 1 1 2\nr 2 1 32024 1 2 1\n")).stdout
-        self.assertIn(
-            '"type":"MultiLineString","coordinates":[[[179.998,0.0],[180.0,0.0]],[[-180.0,0.0],[-179.998,0.0]]]', lines
-        )
-        self.assertIn('"metres":444.78', lines)
-        table = self.run_tool("to_geojson", "net", "a", "--format", "csv").stdout
-        self.assertIn(
-            "MULTILINESTRING ((179.9980000 0.0000000, 180.0000000 0.0000000), (-180.0000000 0.0000000, -179.99", table
-        )
-        self.write("routes", lines)
-        self.run_tool("draw", "net", "routes", "out.svg")
-        picture = (self.folder / "out.svg").read_text()
-        # the scale's bar is of 50 or 100 metres: the picture has the road, and not the world
-        self.assertRegex(picture, r">(50|100|200) m<")
-        self.assertEqual(re.search('<path stroke="#918d86" [^>]*d="([^"]*)"', picture)[1].count("M"), 2)
-        self.run_tool("draw", "net", "routes", "out.html", "--full-network")
-        data = (self.folder / "out.html").read_text()
-        self.assertRegex(data, r'"bounds":\[\[0.0,179.998\],\[0.0,180.002\]\]')
+def test_from_answers_to_a_picture(tmp_path):
+    """A road over the 180th meridian, from 179.998 to -179.998, is 444.78 m, and in parts as GeoJSON and WKT."""
+    net, answers, routes = tmp_path / "net", tmp_path / "answers", tmp_path / "routes"
+    prepared([(179.998, 0), (-179.998, 0), (-179.9, 0)], [Road(0, 1, 32_024, 32_024), Road(1, 2, 784_590, None)], net).close()
+    answers.write_text("r 1 2 32024 1 1 2\nr 2 1 32024 1 2 1\n")
+    routes.write_text(run_tool("to_geojson", net, answers)[0])
+    parts = '"type":"MultiLineString","coordinates":[[[179.998,0.0],[180.0,0.0]],[[-180.0,0.0],[-179.998,0.0]]]'
+    assert parts in routes.read_text() and '"metres":444.78' in routes.read_text()
+    table, _ = run_tool("to_geojson", net, answers, "--format", "csv")
+    assert "MULTILINESTRING ((179.9980000 0.0000000, 180.0000000 0.0000000), (-180.0000000 0.0000000, -179.99" in table
+    run_tool("draw", net, routes, tmp_path / "out.svg")
+    picture = (tmp_path / "out.svg").read_text()
+    # the scale's bar is of 50 or 100 metres: the picture has the road, and not the world
+    assert re.search(r">(50|100|200) m<", picture)
+    assert re.search('<path stroke="#918d86" [^>]*d="([^"]*)"', picture)[1].count("M") == 2
+    run_tool("draw", net, routes, tmp_path / "out.html", "--full-network")
+    assert '"bounds":[[0.0,179.998],[0.0,180.002]]' in (tmp_path / "out.html").read_text()

@@ -40,14 +40,12 @@ def modules():
     """{module: its file} of all packages."""
     tops = [path for name in BELOW if (path := path_of(name))]
     files = {path for top in tops for path in ([top] if top.parent == PYTHON else top.parent.rglob("*.py"))}
-    return {
-        ".".join(path.relative_to(PYTHON).with_suffix("").parts).removesuffix(".__init__"): path for path in sorted(files)
-    }
+    return {".".join(path.relative_to(PYTHON).with_suffix("").parts).removesuffix(".__init__"): path for path in sorted(files)}
 
 
 def imports_of(module, path):
     """The modules of these packages that a module imports, in functions too, but for types alone."""
-    package = module if path.name == "__init__.py" else module.rpartition(".")[0]
+    package = module.split(".") if path.name == "__init__.py" else module.split(".")[:-1]
     waiting, found = [ast.parse(path.read_text(encoding="utf-8"))], set()
     while waiting:
         node = waiting.pop()
@@ -57,8 +55,7 @@ def imports_of(module, path):
         if isinstance(node, ast.Import):
             found |= {alias.name for alias in node.names}
         elif isinstance(node, ast.ImportFrom):
-            parents = package.split(".")[: len(package.split(".")) + 1 - node.level] if node.level else []
-            base = ".".join([*parents, *([node.module] if node.module else [])])
+            base = ".".join([*package[: len(package) + 1 - node.level if node.level else 0], *filter(None, [node.module])])
             found |= {name if path_of(name := f"{base}.{alias.name}") else base for alias in node.names}
         waiting += ast.iter_child_nodes(node)
     return {name for name in found if path_of(name)} - {module}
@@ -68,10 +65,8 @@ IMPORTS = {module: imports_of(module, path) for module, path in modules().items(
 
 
 def test_no_package_imports_one_above():
-    package = {module: module.partition(".")[0] for module in IMPORTS}
-    upward = [(module, name) for module, names in IMPORTS.items() for name in names
-              if package[module] != package[name] and package[name] not in BELOW[package[module]]]
-    assert upward == []
+    tops = {(module.partition(".")[0], name.partition(".")[0]) for module, names in IMPORTS.items() for name in names}
+    assert [(package, other) for package, other in tops if package != other and other not in BELOW[package]] == []
 
 
 def test_no_circle():
@@ -87,8 +82,8 @@ def test_alone(tmp_path, package):
         path = path_of(name)
         source = path if path.parent == PYTHON else path.parent
         (tmp_path / source.name).symlink_to(source)
-    command = [sys.executable, "-P", "-c", IMPORT_ALL, package]
     environment = {**os.environ, "PYTHONPATH": str(tmp_path), "PYTHONDONTWRITEBYTECODE": "1"}
+    command = [sys.executable, "-P", "-c", IMPORT_ALL, package]
     ended = subprocess.run(command, cwd=tmp_path, capture_output=True, text=True, env=environment)
     assert ended.returncode == 0, ended.stderr
     assert set(ended.stdout.split()) <= {package} | BELOW[package]
