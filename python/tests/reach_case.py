@@ -1,5 +1,6 @@
 """What the tests of reach share: small networks in memory, a made town, and the model's lengths."""
 import csv
+import itertools
 import math
 import pathlib
 import tempfile
@@ -72,16 +73,10 @@ def lengths(net, starts, towards=False):
     return np.array([found.get(node, -1) for node in range(len(arcs))])
 
 
-SIDE, STEP, WEST, SOUTH = 24, 90.0, 9.0, 47.0
-
-
 def town_map():
     """A town of 24 by 24 streets, some of one way, around a lake. In the lake is an island of four nodes, to which a bridge leads one
-    way. A road of two nodes is joined to nothing. A motorway lies over a street for its whole length: each of its nodes is a metre
-    beside one of the street's, and its ends are joined to the town. Weights are milliseconds, by 30 and 100 km/h.
-
-    Returns the nodes and the roads, and the numbers of the nodes of the island and of the road apart.
-    """
+    way. A road of two nodes is joined to nothing. Weights are milliseconds, by 30 km/h. Returns the nodes and the roads, and the numbers
+    of the nodes of the island and of the road apart."""
     draw = np.random.default_rng(5)
     places, number, roads = [], {}, []
 
@@ -89,30 +84,23 @@ def town_map():
         places.append((x, y))
         return len(places) - 1
 
-    def join(start, end, kmh=30.0, is_one_way=False):
-        weight = round(math.dist(places[start], places[end]) / kmh * 3600)
+    def join(start, end, is_one_way=False):
+        weight = round(math.dist(places[start], places[end]) / 30 * 3600)
         roads.append(Road(start, end, weight, None if is_one_way else weight))
 
-    for row in range(SIDE):
-        for column in range(SIDE):
-            x, y = np.array((column, row)) * STEP + draw.uniform(-20, 20, 2)
-            if ((x - 1400) / 350) ** 2 + ((y - 1100) / 260) ** 2 > 1:
-                number[column, row] = put(x, y)
+    for row, column in itertools.product(range(24), repeat=2):
+        x, y = np.array((column, row)) * 90.0 + draw.uniform(-20, 20, 2)
+        if ((x - 1400) / 350) ** 2 + ((y - 1100) / 260) ** 2 > 1:
+            number[column, row] = put(x, y)
     for (column, row), node in number.items():
         for other in ((column + 1, row), (column, row + 1)):
             if other in number and draw.integers(0, 9):
-                join(node, number[other], is_one_way=not draw.integers(0, 15))
+                join(node, number[other], not draw.integers(0, 15))
     island = [put(1400 + x, 1100 + y) for x, y in ((-60, -60), (60, -60), (60, 60), (-60, 60))]
     for start, end in zip(island, island[1:] + island[:1]):
         join(start, end)
-    join(min(number.values(), key=lambda node: math.dist(places[node], places[island[0]])), island[0], is_one_way=True)
-    apart = [put(4.5 * STEP, 4.3 * STEP), put(4.5 * STEP, 4.7 * STEP)]
+    join(min(number.values(), key=lambda node: math.dist(places[node], places[island[0]])), island[0], True)
+    apart = [put(405.0, 387.0), put(405.0, 423.0)]
     join(*apart)
-    street = [number[column, 18] for column in range(SIDE)]
-    motorway = [put(places[node][0], places[node][1] + 1) for node in street]
-    for start, end in zip(motorway, motorway[1:]):
-        join(start, end, 100.0)
-    join(street[0], motorway[0])
-    join(street[-1], motorway[-1])
-    east = MILLI * 1000 * math.cos(math.radians(SOUTH))
-    return [(round(WEST + x / east, 7), round(SOUTH + y / MILLI / 1000, 7)) for x, y in places], roads, (island, apart)
+    east = MILLI * 1000 * math.cos(math.radians(47))
+    return [(round(9 + x / east, 7), round(47 + y / MILLI / 1000, 7)) for x, y in places], roads, (island, apart)

@@ -248,24 +248,16 @@ def test_a_part_around_one_of_a_lesser_contour_stays(lesser, greater, areas):
 
 
 def test_features(made_town):
-    """The properties that Mapbox's contours have, the greatest first; rings as RFC 7946 has them, with six decimals."""
+    """Rings are as RFC 7946 has them, with six decimals; lines are the rings; and what is denoised is the largest part."""
     net, _ = made_town
     reach = Reach(net, lengths(net, {300: 0}), isochrones.limits(net.unit, [0.5, 1, 1.5]))
-    found = features(reach, [0.5, 1, 1.5], "time", Style(attribution=net.texts[0]))
-    assert list(found) == ["type", "features", "attribution"] and found["attribution"] == "© the town"
-    assert [each["properties"]["contour"] for each in found["features"]] == [1.5, 1, 0.5]
-    assert found["features"][2]["properties"] == {
-        "contour": 0.5, "metric": "time", "color": "#0072B2", "opacity": 0.33, "fill": "#0072B2", "fillColor": "#0072B2",
-        "fill-opacity": 0.33, "fillOpacity": 0.33,
-    }
-    lines, plain = (features(reach, [0.5, 1, 1.5], "time", style) for style in (Style("lines"), Style(denoise=1)))
-    assert list(plain) == ["type", "features"] and not plain["features"][0]["geometry"]["coordinates"][1:]
-    assert found["features"][0]["geometry"]["coordinates"][1:]
-    for each, line in zip(found["features"], lines["features"], strict=True):
-        whole, polygons = shape(each["geometry"]), each["geometry"]["coordinates"]
-        polygons = [polygons] if each["geometry"]["type"] == "Polygon" else polygons
-        assert whole.is_valid and line["geometry"] == multi_geometry("LineString", [ring for polygon in polygons for ring in polygon])
-        for part in getattr(whole, "geoms", [whole]):
+    found, lines, plain = (features(reach, [0.5, 1, 1.5], "time", style) for style in (Style(), Style("lines"), Style(denoise=1)))
+    geometries = [[each["geometry"] for each in some["features"]] for some in (found, lines, plain)]
+    assert list(found) == ["type", "features"] and [geometry[0]["coordinates"][1:] == [] for geometry in geometries[::2]] == [False, True]
+    for geometry, line in zip(*geometries[:2], strict=True):
+        polygons = [geometry["coordinates"]] if geometry["type"] == "Polygon" else geometry["coordinates"]
+        assert shape(geometry).is_valid and line == multi_geometry("LineString", [ring for polygon in polygons for ring in polygon])
+        for part in (Polygon(outer, holes) for outer, *holes in polygons):
             assert part.exterior.is_ccw and not any(hole.is_ccw for hole in part.interiors)
         assert all(value == round(value, DECIMALS) for polygon in polygons for ring in polygon for point in ring for value in point)
 

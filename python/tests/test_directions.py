@@ -372,7 +372,7 @@ def test_radius_and_ferries(tmp_path: pathlib.Path) -> None:
     with domethyme.Hierarchy(tmp_path / "net.rch", network=tmp_path / "net") as hierarchy:
         places, near = [(179.997, 0.011), (-179.996, 0.0)], hierarchy.network.points_on_roads
         to_places = functools.partial(hierarchy.table, places[1:])
-        aside = (functools.partial(near, **{word: [each] * 2}) for word, each in (("bearings", (90, 20)), ("approaches", "curb")))
+        aside = functools.partial(near, bearings=[(90, 20), None]), functools.partial(near, approaches=["curb", "curb"])
         for call in (hierarchy.directions, hierarchy.table, to_places, hierarchy.tour, hierarchy.alternatives, near, *aside):
             for words in ({"radius": 1300}, {"snapping": "any"}, {"radius": 1200, "snapping": "any"}):
                 with pytest.raises(domethyme.NoSuchNode):
@@ -414,7 +414,7 @@ FRAME = pandas.DataFrame([(lat, "x", lon) for lon, lat in PLACES], columns=["lat
 
 
 def test_frames(village: Any) -> None:
-    """A side that is a frame, or geopandas' points, has its index in the table."""
+    """A frame is as its places, and its index is that of its side of a table."""
     rows = village.table(PLACES)
     assert village.table(FRAME, FRAME.iloc[:2]).to_numpy().tolist() == rows[:, :2].tolist()
     names, sides = [*FRAME.index], ((PLACES[:2], FRAME), (FRAME.iloc[1:], PLACES), (FRAME,), (FRAME, FRAME[:2]))
@@ -428,8 +428,6 @@ def test_frames(village: Any) -> None:
         assert (rows < 0).any() and ((tables[2] == missing) == (rows < 0)).all(axis=None)
     assert village.directions(FRAME) == village.directions(PLACES) == village.directions(np.array(PLACES))
     assert village.directions(PLACES[:1] * 2).line == PLACES[:1] * 2
-    assert [leg.weight for leg in village.directions(PLACES, waypoints=[0, 2]).legs] == [village.directions(PLACES).weight]
-    assert village.tour(PLACES[:1], roundtrip=False).order == village.tour(PLACES[:1]).order == [0]
 
 
 @pytest.mark.parametrize("places, words, says", [

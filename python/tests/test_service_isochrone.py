@@ -8,17 +8,13 @@ import numpy as np
 import pytest
 from reach_case import Road, lengths, prepared
 from service_case import ServiceCase
+from test_generated_service import ask, open_service
 from tool_case import ROOT
 
 from domethyme.network import net_file
 from domethyme.network.isochrones import Drawn, Style, features, limits
 from domethyme.network.reach import Reach
-from domethyme_service import endpoints, isochrone, osrm_request
-from domethyme_service.costs import Meter
-from domethyme_service.errors import RequestError
-from domethyme_service.metrics import SharedMetrics
-from domethyme_service.osrm import Engine
-from domethyme_service.queries import Queries
+from domethyme_service import isochrone
 
 PATH = "/isochrone/v1/car/0.002,0"
 
@@ -89,19 +85,11 @@ def test_geometries_are_those_of_the_package(kind, counts):
     assert json.loads(isochrone.geometry_text(drawn)) == drawn.geometry
 
 
-@pytest.mark.parametrize("most, is_refused", [(2, False), (1, True)])
-def test_nodes_that_may_be_reached(tmp_path, most, is_refused):
+@pytest.mark.parametrize("most, status, told", [(2, 200, None), (1, 400, ("TooBig", "more than 1 nodes are reached"))])
+def test_nodes_that_may_be_reached(tmp_path, most, status, told):
     """Two are, of three; and as many as the page says."""
     assert f"Beyond {isochrone.MAX_REACHED:,} nodes" in (ROOT / "docs/SERVICE.md").read_text(encoding="utf-8")
-    roads = [Road(0, 1, 1000, 1000), Road(1, 2, 90_000, 90_000)]
-    with prepared([(0, 0), (0.001, 0), (0.002, 0)], roads, tmp_path / "row") as row:
-        meter = Meter()
-        engine = Engine(Queries(row._router, row.links, SharedMetrics(), meter), row.network.roads, 0, meter)
-        request = osrm_request.parse_request(endpoints.BY_NAME["/isochrone"], "/isochrone/v1/car/0,0", {"contours_minutes": "1", "polygons": "true"}, 1000)
-        with unittest.mock.patch.object(isochrone, "MAX_REACHED", most):
-            if is_refused:
-                with pytest.raises(RequestError, match="more than 1 nodes are reached") as refused:
-                    isochrone.answer(engine, request)
-                assert (refused.value.status, refused.value.code) == (400, "TooBig")
-            else:
-                assert "Polygon" in isochrone.answer(engine, request)
+    prepared([(0, 0), (0.001, 0), (0.002, 0)], [Road(0, 1, 1000, 1000), Road(1, 2, 90_000, 90_000)], tmp_path / "row").close()
+    with unittest.mock.patch.object(isochrone, "MAX_REACHED", most):
+        found = ask(open_service(tmp_path / "row"), "/isochrone/v1/car/0,0?contours_minutes=1&polygons=true")
+    assert found[0] == status and (told is None or (found[1]["code"], found[1]["message"][: len(told[1])]) == told)
