@@ -59,7 +59,8 @@ def are_nested(found):
 
 
 def check_grids(reach, found):
-    """The step is at most 1/200 of width and height, or half a metre, and no grid has more than 4,000,000 points."""
+    """Contours are nested. The step is at most 1/200 of width and height, or half a metre, and no grid has more than 4,000,000 points."""
+    assert are_nested(found)
     for contour in found:
         west, south, east, north = in_plane(reach, contour.polygons).bounds
         assert contour.step <= max(0.5, min(east - west, north - south) / 200)
@@ -76,7 +77,6 @@ def test_no_node_of_a_network_is_on_the_wrong_side(made_roads, start, minutes, t
     for limit, contour in enumerate(drawn):
         assert misplaced(made_roads, found, reach, limit, contour) == []
         assert 0 < np.count_nonzero((found >= 0) & (found <= reach.limits[limit])) < len(found)
-    assert are_nested(drawn)
     check_grids(reach, drawn)
 
 
@@ -99,10 +99,10 @@ def test_limits_that_differ_much(made_roads):
     meshes = meshes_of(reach)
     assert len(meshes) > 2 and [mesh.step for mesh in meshes] == sorted({mesh.step for mesh in meshes})
     drawn = contours(reach)
-    assert are_nested(drawn) and drawn[0].step < drawn[1].step < drawn[2].step
     check_grids(reach, drawn)
+    assert drawn[0].step < drawn[1].step < drawn[2].step
     for mesh in meshes[:-1]:
-        sides = LineString(np.array(mesh.shown)[[[0, 1], [2, 1], [2, 3], [0, 3], [0, 1]]])
+        sides = rectangle(*mesh.shown).boundary
         assert in_plane(reach, drawn[2].polygons).boundary.intersection(sides).length < 0.05 * sides.length
     parts = [part for contour in drawn for part in in_plane(reach, contour.polygons).geoms]
     rings = [np.array(ring.coords) for part in parts for ring in (part.exterior, *part.interiors)]
@@ -119,9 +119,8 @@ def test_limits_that_differ_much(made_roads):
 def test_roads_far_from_what_is_reached_change_nothing(made_roads, monkeypatch):
     """Also where a long road, a ferry say, is reached up to a place that is far from any node; nor do those in the box of a smaller
     contour, beyond its sides."""
-    nodes = [(0, 0), (0.5, 0), (0.2, 0.0005), (0.21, 0.0005), (0.001, 0.001)]
     roads = [Road(0, 1, 500_000, 500_000), Road(2, 3, 10_000, 10_000), Road(0, 4, 1000, 1000)]
-    ferry = network(nodes, roads)
+    ferry = network([(0, 0), (0.5, 0), (0.2, 0.0005), (0.21, 0.0005), (0.001, 0.001)], roads)
     for net, start, limits in (
         (made_roads, 9000, [200_000]), (made_roads, 100, [100_000, 400_000]), (made_roads, 9000, [1800, 480_000, 1_200_000]),
         (ferry, 0, [500, 205_000]),
@@ -306,9 +305,8 @@ CROSS = """\
 
 
 def test_a_fixed_town_byte_for_byte():
-    """Four roads from a node to the east, west, north and south. A thousandth of a degree takes a second, so after 2 and 4
-    seconds the arms are 0.002 and 0.004 degrees long. To both sides they are as broad as the allowance: 100 m, which is
-    0.0009 degrees, and an eighth of 0.008 degrees."""
+    """Four roads to the east, west, north and south, on which a thousandth of a degree takes a second: after 2 and 4 seconds the arms are
+    0.002 and 0.004 degrees long. They are as broad as the allowance: 100 m, or 0.0009 degrees, and an eighth of 0.008 degrees."""
     nodes = [(0, 0), (-0.01, 0), (0.01, 0), (0, 0.01), (0, -0.01)]
     net = network(nodes, [Road(0, end, 10_000, 10_000) for end in range(1, 5)])
     reach = Reach(net, lengths(net, {0: 0}), [2000, 4000])

@@ -85,8 +85,7 @@ def test_as_the_model(data: Any) -> None:
 @drawn(30)
 @given(networks(), st.data())
 def test_points_of_another_network(made: Any, data: Any) -> None:
-    """Points within an arc that weighs more there are refused, and those at nodes mean the same; as do those near the ends of a loop of both
-    directions whose lesser way rounds to the same weight."""
+    """Points within an arc that weighs more there are refused; those at nodes, or whose weights are rounded to the same, mean the same."""
     heavier = [arc._replace(weight=arc.weight + 2) for arc in made.tables.arcs]
     spots = data.draw(places(made.roads, 3))
     with tempfile.TemporaryDirectory() as folder:
@@ -100,8 +99,7 @@ def test_points_of_another_network(made: Any, data: Any) -> None:
                 hierarchy.table(others)
         else:
             assert hierarchy.table(others).tolist() == hierarchy.table(spots, radius=math.inf, snapping="any").tolist()
-        edges = hierarchy.network.roads.edges
-        for edge in (-1, edges):
+        for edge in (-1, hierarchy.network.roads.edges):
             with pytest.raises(domethyme.NetworkError, match="place 1 is a point on the roads of another network"):
                 hierarchy.table([own[0], own[1]._replace(edge=edge)])
         for word in ("bearings", "radiuses", "approaches"):
@@ -237,8 +235,7 @@ def test_ranges_of_bearings(middle: int, away: int, inside: list[int], outside: 
 
 
 def test_roads_of_a_direction_and_a_side(tmp_path: pathlib.Path) -> None:
-    """The nearest road eastwards is found beyond 70 northwards. A place beyond a sharp bend to the left, a point that comes
-    twice, is on its right."""
+    """The nearest road eastwards is found beyond 70 northwards. A place beyond a sharp bend to the left, a point given twice, is right of it."""
     steps = [((number * 1e-5, 0.0), (number * 1e-5, 0.001)) for number in range(70)]
     steps += [((0.0, 0.002), (0.001, 0.002)), ((0.0, 0.01), (0.0017, 0.0101))]
     roads = [Road(2 * row, 2 * row + 1, 9, 9, ((0.002, 0.01),) * 2 if row == 71 else ()) for row in range(len(steps))]
@@ -348,8 +345,7 @@ def test_orders_by_enumeration(data: Any) -> None:
 
 @pytest.mark.parametrize("against", [1, 3])
 def test_long_tours(against: int) -> None:
-    """Of many places the tour is the same each time, and near the best one where that is known: around a ring, whatever the order, and
-    also where each way against its direction is three times as long."""
+    """Of many places the tour is the same each time, and the best one around a ring, also where each way against it is as long or thrice."""
     count, drawn_order = 60, np.random.default_rng(1).permutation(60)
     angles = drawn_order * math.tau / count
     chords = np.abs(np.exp(1j * angles)[:, None] - np.exp(1j * angles)[None, :])
@@ -363,8 +359,7 @@ def test_long_tours(against: int) -> None:
 
 
 def test_radius_and_ferries(tmp_path: pathlib.Path) -> None:
-    """All calls between places take a radius, and places on ferries where that is said, here over the 180th meridian; those of roads also
-    with directions and sides."""
+    """All calls take a radius, and places on ferries where that is said, here over the 180th meridian; also with directions and sides."""
     line = (179.995, 0.0), (-179.995, 0.0)
     arcs = [Arc(start, 1 - start, 7, 0.0, 9.0, line[:: 1 - 2 * start], 1, highway="ferry") for start in (0, 1)]
     roads = Network([Node(*place) for place in line], arcs)
@@ -450,13 +445,9 @@ def test_limits_of_tables_and_tours(village: Any) -> None:
     for sums, what in (((), "lengths"), (["metres"], "sums")):
         with mock.patch.object(batch, "MAX_CELLS", 3), pytest.raises(domethyme.OutOfMemory, match=f"v.rch: a table of .* {what}"):
             village.table(PLACES, sums=sums)
-
-    def nearest(spots: Any, radius: Any) -> Any:
-        return village.nearest(*spots[0], radius=radius)
-
-    for act, radius in itertools.product((village.directions, village.table, nearest), ("5", True, None, math.nan)):
+    for act, radius in itertools.product((village.directions, village.table, village.nearest), ("5", True, None, math.nan)):
         with pytest.raises(ValueError, match="radius.* to be numbers, and one is"):
-            act(PLACES, radius=radius)
+            act(*((0.0, 0.0) if act == village.nearest else [PLACES]), radius=radius)
     for places, words, says in ((PLACES, {"source": "last"}, "source has to be"), (PLACES * 200, {}, "1 to 500 places")):
         with pytest.raises(ValueError, match=says):
             village.tour(places, **words)

@@ -64,13 +64,10 @@ def imports_of(module, path):
 IMPORTS = {module: imports_of(module, path) for module, path in modules().items()}
 
 
-def test_no_package_imports_one_above():
+def test_no_package_imports_one_above_and_no_circle():
+    """(A package that is imported stands for its own __init__, which imports its modules: so it is left out below itself.)"""
     tops = {(module.partition(".")[0], name.partition(".")[0]) for module, names in IMPORTS.items() for name in names}
     assert [(package, other) for package, other in tops if package != other and other not in BELOW[package]] == []
-
-
-def test_no_circle():
-    """(A package that is imported stands for its own __init__, which imports its modules: so it is left out below itself.)"""
     graph = {module: {name for name in names if not module.startswith(f"{name}.")} for module, names in IMPORTS.items()}
     graphlib.TopologicalSorter(graph).prepare()
 

@@ -43,18 +43,18 @@ def reached_lines(network: Network, points: Sequence[SnappedPoint], limit: int) 
 def is_within(network: Network, shares: dict[int, Shares], place: Point, slack: float) -> bool | None:
     """Whether a place belongs to a contour: the nearest road is reached there, and near enough. None where the nearest road, or
     how far it is, is another within so many metres."""
-    lines = [(number, *row) for number, edge in enumerate(network.edges) for row in enumerate(itertools.pairwise(edge.line))]
-    ways = [(*nearest_on_segment(place, *ends), number, step) for number, step, ends in lines]
     on_roads = {node for arc in network.arcs for node in arc[:2]}
-    alone = [metres_between(place, each.place) for node, each in enumerate(network.nodes) if node not in on_roads and each.ends != "no"]
-    least = min(min(ways)[0], *alone, 1e9)
-    found = {False for metres in alone if metres <= least + slack}  # (a node without roads isn't reached)
-    for metres, share, number, step in ways:
-        if metres <= least + slack:
-            before = network.along[number]
-            whole, at = before[-1] or 1.0, before[step] + share * (before[step + 1] - before[step])
-            for wide in (slack, -slack):
-                found.add(any(low * whole - wide <= at <= high * whole + wide for low, high in shares.get(number, [])))
+    alone = [each.place for node, each in enumerate(network.nodes) if node not in on_roads and each.ends != "no"]
+    near = [(metres_between(place, each), False) for each in alone]  # (a node without roads isn't reached)
+    for number, edge in enumerate(network.edges):
+        before = network.along[number]
+        parts = [(low * (before[-1] or 1.0), high * (before[-1] or 1.0)) for low, high in shares.get(number, [])]
+        for ends, begin, end in zip(itertools.pairwise(edge.line), before, before[1:]):
+            metres, share = nearest_on_segment(place, *ends)
+            at = begin + share * (end - begin)
+            near += ((metres, any(low - wide <= at <= high + wide for low, high in parts)) for wide in (slack, -slack))
+    least = min(near)[0]
+    found = {is_so for metres, is_so in near if metres <= least + slack}
     if len(found) > 1 or ALLOWANCE[0] - slack < least < ALLOWANCE[1] + slack:
         return None
     return found.pop() and least < ALLOWANCE[0]
