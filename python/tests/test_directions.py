@@ -244,10 +244,10 @@ def test_roads_of_a_direction_and_a_side(tmp_path: pathlib.Path) -> None:
             [(0.0003, 0.0005), (0.0021, 0.01002)], bearings=[(90, 5), None], approaches=[None, "curb"]
         )
         assert (east.lat, {*east.exits}, {*bend.exits}, {*bend.entries}) == (0.002, {141}, {143}, {142})
-        (kept,) = hierarchy.network.points_on_roads([(0.0005, 0.0019)], 50, bearings=[(90, 5)], approaches=["curb"])
+        (kept,) = hierarchy.network.points_on_roads([(0.0005, 0.0019999)], 50, bearings=[(90, 5)], approaches=["curb"])
         assert {*kept.exits} == {141}
         with pytest.raises(domethyme.NoSuchNode):  # (westwards the curb is on its other side)
-            hierarchy.network.points_on_roads([(0.0005, 0.0019)], 50, bearings=[(270, 5)], approaches=["curb"])
+            hierarchy.network.points_on_roads([(0.0005, 0.0019999)], 50, bearings=[(270, 5)], approaches=["curb"])
 
 
 def least_weight(legs: Any) -> int | None:
@@ -281,8 +281,8 @@ def check_directions(roads: Any, found: Any, points: Any, legs: Any, stops: list
     more = {"attribution": found.attribution} if found.attribution else {}
     assert feature["properties"] == {"weight": found.weight, "seconds": found.seconds, "metres": found.metres, **more}
     assert found.steps == [step for leg in found.legs for step in leg.steps]
-    seconds = "" if found.seconds is None else f", {found.seconds:g} s"
-    assert repr(found) == f"<Directions by {len(points)} places: weight {found.weight}, {found.metres:g} m{seconds}>"
+    seconds = "" if found.seconds is None else f", {found.seconds:.12g} s"
+    assert repr(found) == f"<Directions by {len(points)} places: weight {found.weight}, {found.metres:.12g} m{seconds}>"
 
 
 def are_steps(roads: Any, found: Any, parts: Any) -> bool:

@@ -112,8 +112,8 @@ class Tour(NamedTuple):
 
 def described(route: Directions | RoadRoute) -> str:
     """The figures of a route, as a session shows them."""
-    seconds = "" if route.seconds is None else f", {route.seconds:g} s"
-    return f"weight {route.weight}, {route.metres:g} m{seconds}" if route.metres is not None else "no path"
+    seconds = "" if route.seconds is None else f", {route.seconds:.12g} s"
+    return f"weight {route.weight}, {route.metres:.12g} m{seconds}" if route.metres is not None else "no path"
 
 
 class Matching:
