@@ -104,8 +104,8 @@ def test_limits_that_differ_much(made_roads):
     for mesh in meshes[:-1]:
         sides = rectangle(*mesh.shown).boundary
         assert in_plane(reach, drawn[2].polygons).boundary.intersection(sides).length < 0.05 * sides.length
-    parts = [part for contour in drawn for part in in_plane(reach, contour.polygons).geoms]
-    rings = [np.array(ring.coords) for part in parts for ring in (part.exterior, *part.interiors)]
+    lines = [line for contour in drawn for part in in_plane(reach, contour.polygons).geoms for line in (part.exterior, *part.interiors)]
+    rings = [np.array(line.coords) for line in lines]
     ends, counts = np.concatenate([np.stack((ring[:-1], ring[1:]), axis=1) for ring in rings]), []
     for mesh in meshes:
         box = mesh.shown or mesh.box

@@ -22,7 +22,6 @@ from domethyme.network.snapping import RoadIndex
 from domethyme.network.sphere import great_circle_metres, nearest_on_segments, unit_vectors
 from domethyme_service.tiles import Tiles
 
-
 FEW = {"CHUNK_SIZE": 3, "MAX_CANDIDATES": 20, "BATCH_SIZE": 7}
 
 
@@ -36,8 +35,8 @@ def ahead(place, turn, degrees):
 
 @pytest.mark.parametrize("middle, wide, count", [((9, 47), 0.03, 250), ((0, 90), 0.0015, 12), ((50, -90), 0.0015, 12)])
 def test_places_between_short_roads(tmp_path, middle, wide, count):
-    """Roads of some 8 metres, 250 metres apart: what is found in the nearest cells is often not the nearest, which is the model's.
-    At a pole those on its other side count, too. Places that are looked for together are found as each alone."""
+    """Roads of some 8 metres, 250 metres apart: the nearest is often not in the nearest cells, and is the model's; at a pole also on its
+    other side. Places that are looked for together are found as each alone."""
     draw = random.Random(4)
 
     def beside():
@@ -132,8 +131,8 @@ def test_the_other_side_of_the_earth():
 
 
 def test_steps_by_kind_and_cell(monkeypatch):
-    """The first kind that there is is always shown, another one from the zoom at which a step of it or of those before has few in
-    its cell on average. The steps of a kind are in the order of their cells, and those of a cell in their own."""
+    """The first kind that there is is always shown, another from the zoom at which a step of it or of those before has few in its cell
+    on average. The steps of a kind are in the order of their cells, and those of a cell in their own."""
     draw = np.random.default_rng(2)
     monkeypatch.setattr(zoom_levels, "MAX_PER_CELL", 4)
     monkeypatch.setattr(parallel, "SLICE_ROWS", 7)
@@ -149,11 +148,9 @@ def test_steps_by_kind_and_cell(monkeypatch):
         least = 0
         for place, kind in enumerate(sorted({*kinds.tolist()})):
             codes_to = [code for each, code, *_ in rows if each <= kind]
-            while place and least < 15:
-                cells = collections.Counter(code >> 2 * (15 - least) for code in codes_to).values()
-                if sum(each**2 for each in cells) <= 4 * len(codes_to):
-                    break
-                least += 1
+            cells = [collections.Counter(code >> 2 * (15 - zoom) for code in codes_to).values() for zoom in range(15)]
+            is_few = [zoom >= least and sum(each**2 for each in some) <= 4 * len(codes_to) for zoom, some in enumerate(cells)]
+            least = [*is_few, True].index(True) if place else 0
             assert zooms[kind] == least
 
 
