@@ -280,6 +280,7 @@ def test_across_the_180th_meridian():
         net = network(nodes, [Road(0, end, 6000, 6000) for end in range(1, 5)])
         reach = Reach(net, lengths(net, {0: 0}), [2500, 5000])
         shapes.append([shape(each["geometry"]) for each in features(reach, [1, 2], "time")["features"]])
+        assert all(value == round(value, DECIMALS) for line in reach.roads(1) for place in line for value in place)
     for lon, found in zip(lons[1:], shapes[1:]):
         for plain, parted in zip(shapes[0], found):
             west, east = sorted(parted.geoms, key=lambda part: part.bounds)

@@ -278,8 +278,13 @@ def check_directions(roads: Any, found: Any, points: Any, legs: Any, stops: list
     more = {"attribution": found.attribution} if found.attribution else {}
     assert feature["properties"] == {"weight": found.weight, "seconds": found.seconds, "metres": found.metres, **more}
     assert found.steps == [step for leg in found.legs for step in leg.steps]
-    seconds = "" if found.seconds is None else f", {found.seconds:.12g} s"
-    assert repr(found) == f"<Directions by {len(points)} places: weight {found.weight}, {found.metres:.12g} m{seconds}>"
+    assert repr(found) == f"<Directions by {len(points)} places: {described(found)}>"
+    assert [*map(repr, found.legs)] == [f"<RoadRoute: {described(leg)}, {len(leg.line)} points>" for leg in found.legs]
+
+
+def described(route: Any) -> str:
+    seconds = "" if route.seconds is None else f", {route.seconds:.12g} s"
+    return f"weight {route.weight}, {route.metres:.12g} m{seconds}"
 
 
 def are_steps(roads: Any, found: Any, parts: Any) -> bool:

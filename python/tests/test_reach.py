@@ -32,12 +32,12 @@ def row(tmp_path_factory):
 
 
 def test_copies_of_a_node_count_once():
-    """Of the copies at a junction one is reached, so all are. Another node in the same place isn't a copy."""
+    """Of the copies at a junction one is reached, so all are. Others in the same place aren't copies of it."""
     here = (0.001, 0.0)
-    nodes = [(0, 0), (*here, "from", 7), (*here, "to", 7), (*here, "no", 7), (*here, "", 8), (0.002, 0)]
-    net = network(nodes, [Road(start, end, 1000, None) for start, end in ((0, 2), (1, 5), (3, 5), (4, 5))])
+    nodes = [(0, 0), (*here, "from", 7), (*here, "to", 7), (*here, "no", 7), (*here, "", 8), (0.002, 0), (*here, "to", 9)]
+    net = network(nodes, [Road(start, 5, 1000, None) for start in (1, 3, 4, 6)] + [Road(0, 2, 1000, None)])
     reach = Reach(net, lengths(net, {0: 0}).astype(np.int16), [500, 1000])
-    assert reach.node_levels(np.arange(6)).tolist() == [0, 1, 1, 1, 2, 2]
+    assert reach.node_levels(np.arange(7)).tolist() == [0, 1, 1, 1, 2, 2, 2]
     assert reach.roads(1) == [[(0, 0), (0.001, 0)]]  # the copy from which roads lead isn't reached itself
 
 
