@@ -219,28 +219,23 @@ def square(west, south, side, *holes):
     return rectangle(west, south, west + side, south + side).difference(MultiPolygon(holes))
 
 
-@pytest.mark.parametrize("share, inner, outer", [
-    (0, [100, 9, 3], [384, 64, 1]), (0.04, [100, 9, 4], [384, 64]), (0.05, [100, 9], [400, 64]), (0.16, [100], [400, 64]),
-    (0.165, [100], [400]), (1, [100], [400]),
+LESSER = [square(1, 1, 10), square(30, 1, 3), square(36, 1, 2, square(36.5, 1.5, 1))]
+GREATER = [square(0, 0, 20, square(14, 14, 4)), square(15, 15, 1), square(30, 0, 8)]
+
+
+@pytest.mark.parametrize("lesser, greater, share, inner, outer", [
+    *((LESSER, GREATER, *row) for row in (
+        (0, [100, 9, 3], [384, 64, 1]), (0.04, [100, 9, 4], [384, 64]), (0.05, [100, 9], [400, 64]), (0.16, [100], [400, 64]),
+        (0.165, [100], [400]), (1, [100], [400]),
+    )),
+    ([square(1, 1, 3), square(31, 1, 3)], [square(0, 0, 20), square(30, 0, 5)], 0.5, [9, 9], [400, 25]),
+    ([square(1, 1, 2), square(7, 7, 1.5)], [square(0, 0, 20, square(5, 5, 5)), square(6, 6, 3)], 0.5, [4, 2.25], [400]),
+    ([square(1, 1, 3)], [square(0, 0, 5), square(30, 0, 20)], 0.5, [9], [400, 25]),
 ])
-def test_denoise(share, inner, outer):
-    """Parts and holes that are small beside the largest part go. The lesser contour has parts of 100, 9, and 4 with a hole
-    of 1; the greater one has 400 with a hole of 16, in which is a part of 1, and 64."""
-    lesser = [square(1, 1, 10), square(30, 1, 3), square(36, 1, 2, square(36.5, 1.5, 1))]
-    greater = [square(0, 0, 20, square(14, 14, 4)), square(15, 15, 1), square(30, 0, 8)]
+def test_denoise(lesser, greater, share, inner, outer):
+    """Parts and holes that are small beside the largest part go, but for parts around one of a lesser contour."""
     found = contour_shapes.denoised([lesser, greater], share)
-    assert [sorted((part.area for part in parts), reverse=True) for parts in found] == [inner, outer]
-    assert are_nested(found)
-
-
-@pytest.mark.parametrize("lesser, greater, areas", [
-    ([square(1, 1, 3), square(31, 1, 3)], [square(0, 0, 20), square(30, 0, 5)], [400, 25]),
-    ([square(1, 1, 2), square(7, 7, 1.5)], [square(0, 0, 20, square(5, 5, 5)), square(6, 6, 3)], [400]),
-    ([square(1, 1, 3)], [square(0, 0, 5), square(30, 0, 20)], [400, 25]),
-])
-def test_a_part_around_one_of_a_lesser_contour_stays(lesser, greater, areas):
-    found = contour_shapes.denoised([lesser, greater], 0.5)
-    assert sorted((part.area for part in found[1]), reverse=True) == areas and are_nested(found)
+    assert [sorted((part.area for part in parts), reverse=True) for parts in found] == [inner, outer] and are_nested(found)
 
 
 # GeoJSON

@@ -156,16 +156,15 @@ def test_steps_by_kind_and_cell(monkeypatch):
 
 def test_bounding_box():
     """The narrowest one to a hundredth of a degree, whose east may be beyond 180."""
-    draw = np.random.default_rng(3)
+    draw, full = np.random.default_rng(3), 36 * 10**8
     for count in (1, 2, 2, 3, 3, 4, 8, 8):
-        lons, lats = draw.integers(-180 * 10**7, 180 * 10**7, count, endpoint=True), draw.integers(-9 * 10**8, 9 * 10**8, count)
-        lons = np.append(lons, [-18 * 10**8, 18 * 10**8][: count % 3])
-        lats = np.resize(lats, len(lons))
+        lons = np.append(draw.integers(-full // 2, full // 2, count, endpoint=True), [-full // 2, full // 2][: count % 3])
+        lats = draw.integers(-full // 4, full // 4, len(lons))
         west, south, east, north = bounding_box(np.column_stack((lons, lats)).astype(np.int32))
-        turned = np.sort((lons - west) % (36 * 10**8))
-        assert (south, north, west in lons, east in lons or east - 36 * 10**8 in lons) == (lats.min(), lats.max(), True, True)
-        assert -18 * 10**8 <= west <= 18 * 10**8 and east - west in (turned[-1], 36 * 10**8)
-        assert 36 * 10**8 - (east - west) >= np.diff(np.append(np.unique(turned), 36 * 10**8)).max() - 10**5
+        turned = np.sort((lons - west) % full)
+        assert (south, north, west in lons, east in lons or east - full in lons) == (lats.min(), lats.max(), True, True)
+        assert -full // 2 <= west <= full // 2 and east - west in (turned[-1], full)
+        assert full - (east - west) >= np.diff(np.append(np.unique(turned), full)).max() - 10**5
     assert bounding_box(np.empty((0, 2), np.int32)) == [0, 0, 0, 0]
 
 

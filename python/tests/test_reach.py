@@ -78,10 +78,14 @@ def test_what_does_not_fit(values, limits):
 
 
 @drawn(200)
-@given(st.sampled_from([("duration", "minutes", 60_000), ("distance", "metres", 100)]), st.decimals("0.01", 600, places=2))
-def test_limits_in_the_unit_of_weights(kind, value):
-    unit, name, factor = kind
-    assert isochrones.limits(unit, **{name: [float(value)]}) == [int(value * factor)]
+@given(st.sampled_from(["duration", "distance"]), st.sampled_from(["duration", "distance", "weight"]), st.decimals("0.01", 600, places=2))
+def test_limits_in_the_unit_of_weights(asked, unit, value):
+    name, factor, metric = {"duration": ("minutes", 60_000, "time"), "distance": ("metres", 100, "distance")}[asked]
+    if unit == asked:
+        assert isochrones.limits(unit, **{name: [float(value)]}) == [int(value * factor)]
+        return
+    with pytest.raises(ValueError, match=f"aren't a {metric}: they are {unit}s"):
+        isochrones.limits(unit, **{name: [float(value)]})
 
 
 @pytest.mark.parametrize("starts, limit, says", [
@@ -161,14 +165,6 @@ def test_arguments_that_are_refused(row, words, says):
     with pytest.raises(ValueError, match=says) as caught:
         row.within(**{"place": (0, 0), **words})
     assert isinstance(caught.value, domethyme.NoSuchNode) == (words == {"place": (0, 2)})
-
-
-@pytest.mark.parametrize("words, says", [
-    (("distance", [5]), "aren't a time: they are distances"), (("weight", [5]), "aren't a time: they are weights"), (("duration",), "one of both"),
-])
-def test_limits_that_are_not_known(words, says):
-    with pytest.raises(ValueError, match=says):
-        isochrones.limits(*words)
 
 
 def test_without_a_network(row):
