@@ -251,5 +251,5 @@ class Contour(NamedTuple):
         on_roads = [point_at(edge.line, share / 8) for edge in self.network.edges for share in (1, 4, 7)]
         lons, lats = zip(*(point for edge in self.network.edges for point in edge.line))
         wide, high = max(lons) - min(lons) + 0.008, max(lats) - min(lats) + 0.008
-        steps = range(1, 30, 3)
-        return on_roads + [(min(lons) - 0.004 + wide * (5 * step % 13) / 13, min(lats) - 0.004 + high * step / 30) for step in steps]
+        west, south, steps = min(lons) - 0.004, min(lats) - 0.004, range(1, 30, 3)
+        return on_roads + [(west + wide * (5 * step % 13) / 13, south + high * step / 30) for step in steps]

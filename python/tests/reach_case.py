@@ -64,7 +64,7 @@ def prepared(nodes, roads, prefix, **words):
 
 
 def lengths(net, starts, towards=False):
-    """The least length of each node from the nearest of `starts`, a dict of nodes and what is added there, or towards it; -1 for none."""
+    """The least length of each node from the nearest of `starts`, nodes with what is added there, or towards it; -1 for none."""
     begins, ends = (net.arc_to, net.arc_from) if towards else (net.arc_from, net.arc_to)
     arcs = [[] for _ in range(len(net.node_lon))]
     for begin, end, weight in zip(begins[:].tolist(), ends[:].tolist(), net.arc_weight[:].tolist()):
@@ -74,9 +74,9 @@ def lengths(net, starts, towards=False):
 
 
 def town_map():
-    """A town of 24 by 24 streets, some of one way, around a lake. In the lake is an island of four nodes, to which a bridge leads one
-    way. A road of two nodes is joined to nothing. Weights are milliseconds, by 30 km/h. Returns the nodes and the roads, and the numbers
-    of the nodes of the island and of the road apart."""
+    """A town of 24 by 24 streets, some of one way, around a lake. In the lake is an island of four nodes, to which a bridge leads
+    one way. A road of two nodes is joined to nothing. Weights are milliseconds, by 30 km/h. Returns the nodes and the roads, and
+    the numbers of the nodes of the island and of the road apart."""
     draw = np.random.default_rng(5)
     places, number, roads = [], {}, []
 

@@ -7,11 +7,13 @@ import sys
 
 import numpy as np
 import pytest
+from draws import run_tool
 from reach_case import MILLI, Road, lengths, network, town_map
 from shapely import vectorized
 from shapely.affinity import scale, translate
 from shapely.geometry import LineString, MultiLineString, MultiPolygon, Point, Polygon, box as rectangle, shape
 
+import domethyme
 from domethyme.network import contour_shapes, isochrones, net_file
 from domethyme.network.contours import NONE, contours, meshes_of, nearest_levels, nearest_levels_far
 from domethyme.network.geo import multi_geometry
@@ -19,9 +21,6 @@ from domethyme.network.indexes import UNITS
 from domethyme.network.isochrones import Style, features
 from domethyme.network.outlines import outlines
 from domethyme.network.reach import DECIMALS, METRES_OF_DEGREE, Reach, Zone
-
-BENCH = pathlib.Path(__file__).resolve().parents[2] / "bench"
-
 
 @pytest.fixture(scope="module")
 def made_town():
@@ -33,8 +32,8 @@ def made_town():
 @pytest.fixture(scope="module")
 def made_roads(tmp_path_factory):
     """Roads of 20,000 nodes as bench has them: of four kinds, with dead ends and streets of one way."""
-    prefix = tmp_path_factory.mktemp("roads") / "net"
-    subprocess.run([sys.executable, BENCH / "make_roads.py", "20000", "7", prefix], check=True, capture_output=True)
+    prefix, bench = tmp_path_factory.mktemp("roads") / "net", pathlib.Path(__file__).resolve().parents[2] / "bench"
+    subprocess.run([sys.executable, bench / "make_roads.py", "20000", "7", prefix], check=True, capture_output=True)
     return net_file.read(f"{prefix}.net")
 
 
@@ -45,7 +44,7 @@ def in_plane(reach, geometry):
 
 
 def misplaced(net, found, reach, limit, contour):
-    """By the lengths alone the nodes further than a step from the line that are reached and outside, or inside and aren't reached."""
+    """By the lengths alone the nodes further than a step from the line that are reached and outside, or inside and aren't."""
     area = in_plane(reach, contour.polygons)
     points = reach.plane.of(np.column_stack((net.node_lon[:], net.node_lat[:])))
     is_reached = (found >= 0) & (found <= reach.limits[limit])
@@ -59,7 +58,7 @@ def are_nested(found):
 
 
 def check_grids(reach, found):
-    """Contours are nested. The step is at most 1/200 of width and height, or half a metre, and no grid has more than 4,000,000 points."""
+    """Contours are nested. The step is at most 1/200 of width and height, or half a metre; a grid has 4,000,000 points at most."""
     assert are_nested(found)
     for contour in found:
         west, south, east, north = in_plane(reach, contour.polygons).bounds
@@ -104,8 +103,8 @@ def test_limits_that_differ_much(made_roads):
     for mesh in meshes[:-1]:
         sides = rectangle(*mesh.shown).boundary
         assert in_plane(reach, drawn[2].polygons).boundary.intersection(sides).length < 0.05 * sides.length
-    lines = [line for contour in drawn for part in in_plane(reach, contour.polygons).geoms for line in (part.exterior, *part.interiors)]
-    rings = [np.array(line.coords) for line in lines]
+    parts = [part for contour in drawn for part in in_plane(reach, contour.polygons).geoms]
+    rings = [np.array(line.coords) for part in parts for line in (part.exterior, *part.interiors)]
     ends, counts = np.concatenate([np.stack((ring[:-1], ring[1:]), axis=1) for ring in rings]), []
     for mesh in meshes:
         box = mesh.shown or mesh.box
@@ -133,6 +132,17 @@ def test_roads_far_from_what_is_reached_change_nothing(made_roads, monkeypatch):
             patched.setattr(Reach, "zone", lambda *_: everywhere)
             patched.setattr(Zone, "without", lambda zone, _: zone)
             assert found == [MultiPolygon(contour.polygons).wkt for contour in contours(reach)]
+
+
+def test_nodes_that_have_lost_their_roads(tmp_path):
+    """They lie beside a road that is reached, and make no holes, as their own road does."""
+    (tmp_path / "nodes.csv").write_text("lon,lat\n0,0\n0.01,0\n0.004,0\n0.006,0.00001\n")
+    (tmp_path / "arcs.csv").write_text("from,to,seconds,toll\n1,2,60,\n2,1,60,\n3,4,9,yes\n4,3,9,yes\n")
+    run_tool("to_network", tmp_path / "nodes.csv", tmp_path / "arcs.csv", tmp_path / "net")
+    for exclude, holes in (([], 1), (["toll"], 0)):
+        net = domethyme.Network(tmp_path / "net", exclude=exclude).roads.arrays
+        (contour,) = contours(Reach(net, np.array([0, 60_000, -1, -1]), [60_000]))
+        assert len(contour.polygons[0].interiors) == holes
 
 
 @pytest.mark.parametrize("radius", [1, 6, 25, 126])
@@ -238,16 +248,13 @@ def test_denoise(lesser, greater, share, inner, outer):
     assert [sorted((part.area for part in parts), reverse=True) for parts in found] == [inner, outer] and are_nested(found)
 
 
-# GeoJSON
-
-
 def test_features(made_town):
     """Rings are as RFC 7946 has them, with six decimals; lines are the rings; and what is denoised is the largest part."""
     net, _ = made_town
     reach = Reach(net, lengths(net, {300: 0}), isochrones.limits(net.unit, [0.5, 1, 1.5]))
     found, lines, plain = (features(reach, [0.5, 1, 1.5], "time", style) for style in (Style(), Style("lines"), Style(denoise=1)))
     geometries = [[each["geometry"] for each in some["features"]] for some in (found, lines, plain)]
-    assert list(found) == ["type", "features"] and [geometry[0]["coordinates"][1:] == [] for geometry in geometries[::2]] == [False, True]
+    assert list(found) == ["type", "features"] and [len(some[0]["coordinates"]) > 1 for some in geometries[::2]] == [True, False]
     for geometry, line in zip(*geometries[:2], strict=True):
         polygons = [geometry["coordinates"]] if geometry["type"] == "Polygon" else geometry["coordinates"]
         assert shape(geometry).is_valid and line == multi_geometry("LineString", [ring for polygon in polygons for ring in polygon])
@@ -258,12 +265,12 @@ def test_features(made_town):
 
 def test_nothing_is_reached(made_town):
     net, _ = made_town
-    reach = Reach(net, np.where(np.arange(len(net.node_lon)) == 7, 5000, -1), [1, 2, 3, 4, 4999, 10_000])
+    reach = Reach(net, np.where(np.arange(len(net.node_lon)) == 7, 5000, -1), [*range(1, 126), 4999, 10_000])
     for form in ("polygons", "lines", "roads"):
-        greater, *others = features(reach, range(6), "time", Style(form, generalize=5, denoise=0.5))["features"]
+        greater, *others = features(reach, range(127), "time", Style(form, generalize=5, denoise=0.5))["features"]
         assert {each["geometry"] for each in others} == {None} and greater["geometry"] is not None
         colors = [each["properties"]["color"] for each in (greater, *others)]
-        assert colors == [f"#{isochrones.COLORS[place % 4]}" for place in reversed(range(6))]
+        assert colors == [f"#{isochrones.COLORS[place % 4]}" for place in reversed(range(127))]
 
 
 def test_across_the_180th_meridian():
@@ -301,8 +308,8 @@ CROSS = """\
 
 
 def test_a_fixed_town_byte_for_byte():
-    """Four roads to the east, west, north and south, on which a thousandth of a degree takes a second: after 2 and 4 seconds the arms are
-    0.002 and 0.004 degrees long. They are as broad as the allowance: 100 m, or 0.0009 degrees, and an eighth of 0.008 degrees."""
+    """Four roads to the east, west, north and south, on which a thousandth of a degree takes a second, so after 2 and 4 seconds the
+    arms are 0.002 and 0.004 degrees long. They are as broad as the allowance: 100 m (0.0009 degrees), and an eighth of 0.008."""
     nodes = [(0, 0), (-0.01, 0), (0.01, 0), (0, 0.01), (0, -0.01)]
     net = network(nodes, [Road(0, end, 10_000, 10_000) for end in range(1, 5)])
     reach = Reach(net, lengths(net, {0: 0}), [2000, 4000])

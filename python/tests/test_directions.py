@@ -85,7 +85,7 @@ def test_as_the_model(data: Any) -> None:
 @drawn(30)
 @given(networks(), st.data())
 def test_points_of_another_network(made: Any, data: Any) -> None:
-    """Points within an arc that weighs more there are refused; those at nodes, or whose weights are rounded to the same, mean the same."""
+    """Points within an arc that weighs more there are refused; those at nodes, or of rounded weights, mean the same."""
     heavier = [arc._replace(weight=arc.weight + 2) for arc in made.tables.arcs]
     spots = data.draw(places(made.roads, 3))
     with tempfile.TemporaryDirectory() as folder:
@@ -155,18 +155,13 @@ def test_alternatives(data: Any) -> None:
             check_alternative(made.tables, hierarchy.network.roads.arrays, leg, sides, first.weight)
             for other in [first, *found[:place]]:
                 assert sum(weight for arc, weight in zip(leg.arcs, leg.weights) if arc in other.arcs) <= 0.75 * first.weight
-        if is_fork:
-            check_all(made.roads, hierarchy.network.roads.arrays, spots, found)
-
-
-def check_all(net: Network, arrays: Any, spots: list[Any], found: list[Any]) -> None:
-    """Of ways that fork none is missing, and they come in order."""
-    with contextlib.suppress(Ambiguous):
-        points = [net.snap(spot, 1000.0) for spot in spots]
-        assert points[0] and points[1]
-        wanted = [[(*net.arcs[arc][:2], weight) for arc, *_, weight in way] for way in every_alternative(net, points[0], points[1])]
-        shown = [zip(arrays.arc_from[leg.arcs].tolist(), arrays.arc_to[leg.arcs].tolist(), leg.weights.tolist()) for leg in found]
-        assert [*map(list, shown)] == wanted
+        if is_fork:  # (of whose ways none is missing, and they come in order)
+            with contextlib.suppress(Ambiguous):
+                net, arrays = made.roads, hierarchy.network.roads.arrays
+                ways = every_alternative(net, *(net.snap(spot, 1000.0) for spot in spots))
+                rows = [zip(leg.arcs.tolist(), leg.weights.tolist()) for leg in found]
+                shown = [[(arrays.arc_from[arc], arrays.arc_to[arc], weight) for arc, weight in leg] for leg in rows]
+                assert shown == [[(*net.arcs[arc][:2], weight) for arc, *_, weight in way] for way in ways]
 
 
 def check_alternative(net: Network, arrays: Any, leg: Any, sides: list[dict[int, int]], best: int) -> None:
@@ -227,12 +222,11 @@ def test_alternatives_by_hand(tmp_path: pathlib.Path, ways: list[Any], forks: li
 ])
 def test_ranges_of_bearings(middle: int, away: int, inside: list[int], outside: list[int]) -> None:
     """They end with the degrees that they name, also beyond north."""
-    wanted = BearingRange(middle, away)
-    assert [*filter(wanted.contains, [*inside, *outside])] == inside
+    assert [*filter(BearingRange(middle, away).contains, [*inside, *outside])] == inside
 
 
 def test_roads_of_a_direction_and_a_side(tmp_path: pathlib.Path) -> None:
-    """The nearest road eastwards is found beyond 70 northwards. A place beyond a sharp bend to the left, a point given twice, is right of it."""
+    """The nearest road eastwards is found beyond 70 northwards. A place beyond a sharp bend to the left, given twice, is right."""
     steps = [((number * 1e-5, 0.0), (number * 1e-5, 0.001)) for number in range(70)]
     steps += [((0.0, 0.002), (0.001, 0.002)), ((0.0, 0.01), (0.0017, 0.0101))]
     roads = [Road(2 * row, 2 * row + 1, 9, 9, ((0.002, 0.01),) * 2 if row == 71 else ()) for row in range(len(steps))]
@@ -343,7 +337,7 @@ def test_orders_by_enumeration(data: Any) -> None:
 
 @pytest.mark.parametrize("against", [1, 3])
 def test_long_tours(against: int) -> None:
-    """Of many places the tour is the same each time, and the best one around a ring, also where each way against it is as long or thrice."""
+    """Of many places the tour is the same each time, and the best one around a ring, also if ways against it are thrice as long."""
     count, drawn_order = 60, np.random.default_rng(1).permutation(60)
     angles = drawn_order * math.tau / count
     chords = np.abs(np.exp(1j * angles)[:, None] - np.exp(1j * angles)[None, :])
@@ -357,7 +351,7 @@ def test_long_tours(against: int) -> None:
 
 
 def test_radius_and_ferries(tmp_path: pathlib.Path) -> None:
-    """All calls take a radius, and places on ferries where that is said, here over the 180th meridian; also with directions and sides."""
+    """All calls take a radius, and places on ferries where that is said, here over the 180th meridian; also with bearings."""
     line = (179.995, 0.0), (-179.995, 0.0)
     arcs = [Arc(start, 1 - start, 7, 0.0, 9.0, line[:: 1 - 2 * start], 1, highway="ferry") for start in (0, 1)]
     roads = Network([Node(*place) for place in line], arcs)
@@ -425,9 +419,9 @@ def test_frames(village: Any) -> None:
 
 @pytest.mark.parametrize("places, words, says", [
     (PLACES[:1], {}, "two places or more"), ([(1, 2, 3)], {}, r"rows \(lon, lat\)"), ([], {}, "a place or more"),
-    (FRAME.rename(columns={"lon": "x"}), {}, "columns lon and lat"), (pandas.concat([FRAME, FRAME["lon"]], axis=1), {}, "lon and lat, each once"),
-    (FRAME.assign(lon=pandas.array([9.5, None, 9.5], "Float64")), {}, "some are missing"), ([(200, 0)] * 2, {}, "lon has to be from -180"),
-    ([PLACES[0], (0.0, 80.0)], {}, "no road within 1000 m"), (PLACES, {"radiuses": [math.nan, None, None]}, "radius.* to be numbers, and one is"),
+    (FRAME[["lat"]], {}, "columns lon and lat"), (pandas.concat([FRAME, FRAME["lon"]], axis=1), {}, "lon and lat, each once"),
+    (FRAME.assign(lon=pandas.array([9.5, None, 9.5], "Float64")), {}, "some are missing"), ([(200, 0)] * 2, {}, "lon has to be"),
+    ([PLACES[0], (0, 80)], {}, "no road within 1000 m"), (PLACES, {"radiuses": [math.nan, None, None]}, "to be numbers, and one"),
     (PLACES, {"bearings": [(0, 10)]}, "one for each place"), (PLACES, {"bearings": [(400, 10), None, None]}, "a bearing is"),
     (PLACES, {"approaches": ["left", None, "curb"]}, "approaches are .unrestricted. or .curb., and not .left."),
     *((PLACES, {"waypoints": stops}, "waypoints have to be numbers of places that rise from 0 to the last, 2") for stops in (

@@ -35,8 +35,8 @@ def ahead(place, turn, degrees):
 
 @pytest.mark.parametrize("middle, wide, count", [((9, 47), 0.03, 250), ((0, 90), 0.0015, 12), ((50, -90), 0.0015, 12)])
 def test_places_between_short_roads(tmp_path, middle, wide, count):
-    """Roads of some 8 metres, 250 metres apart: the nearest is often not in the nearest cells, and is the model's; at a pole also on its
-    other side. Places that are looked for together are found as each alone."""
+    """Roads of some 8 metres, 250 metres apart: the nearest is often not in the nearest cells, and is the model's; at a pole also
+    on its other side. Places that are looked for together are found as each alone."""
     draw = random.Random(4)
 
     def beside():
@@ -131,8 +131,8 @@ def test_the_other_side_of_the_earth():
 
 
 def test_steps_by_kind_and_cell(monkeypatch):
-    """The first kind that there is is always shown, another from the zoom at which a step of it or of those before has few in its cell
-    on average. The steps of a kind are in the order of their cells, and those of a cell in their own."""
+    """The first kind that there is is always shown, another from the zoom at which a step of it or of those before has few in its
+    cell on average. The steps of a kind are in the order of their cells, and those of a cell in their own."""
     draw = np.random.default_rng(2)
     monkeypatch.setattr(zoom_levels, "MAX_PER_CELL", 4)
     monkeypatch.setattr(parallel, "SLICE_ROWS", 7)

@@ -1,5 +1,6 @@
 """Tests of which roads are reached, and of what Hierarchy.reach and within refuse. A thousandth of a degree is 111.195 m along the
 equator, and weighs 1000 there."""
+import itertools
 import os
 import pickle
 import shutil
@@ -22,6 +23,7 @@ from domethyme.network.snapping import RoadIndex
 
 # A road of two directions, one to the east alone, and roads without weight; a node apart.
 ROW = [(0, 0), (0.001, 0), (0.002, 0), (0.003, 0), (0.004, 0), (0, 0.01)]
+UNITS = ["duration", "distance", "weight"]
 ROADS = [Road(0, 1, 1000, 1000), Road(1, 2, 1000, None), Road(2, 3, 0, 0), Road(3, 4, 60_000, 0)]
 
 
@@ -39,11 +41,6 @@ def test_copies_of_a_node_count_once():
     reach = Reach(net, lengths(net, {0: 0}).astype(np.int16), [500, 1000])
     assert reach.node_levels(np.arange(7)).tolist() == [0, 1, 1, 1, 2, 2, 2]
     assert reach.roads(1) == [[(0, 0), (0.001, 0)]]  # the copy from which roads lead isn't reached itself
-
-
-def test_nothing_is_reached():
-    reach = Reach(network(ROW, ROADS), np.full(6, -1), range(127))
-    assert reach.boxes == [None] * 127 and list(reach.roads(126)) == []
 
 
 @pytest.mark.parametrize("off", [0.001, 0.0089, -0.0089])
@@ -78,7 +75,7 @@ def test_what_does_not_fit(values, limits):
 
 
 @drawn(200)
-@given(st.sampled_from(["duration", "distance"]), st.sampled_from(["duration", "distance", "weight"]), st.decimals("0.01", 600, places=2))
+@given(st.sampled_from(UNITS[:2]), st.sampled_from(UNITS), st.decimals("0.01", 600, places=2))
 def test_limits_in_the_unit_of_weights(asked, unit, value):
     name, factor, metric = {"duration": ("minutes", 60_000, "time"), "distance": ("metres", 100, "distance")}[asked]
     if unit == asked:
@@ -100,7 +97,8 @@ def test_what_cannot_be_reached(row, starts, limit, says):
 
 
 @pytest.mark.parametrize("change", [
-    lambda path: os.replace(shutil.copy2(path, f"{path}.new"), path), lambda path: os.utime(path, ns=(0, path.stat().st_mtime_ns + 1))
+    lambda path: os.replace(shutil.copy2(path, f"{path}.new"), path),
+    lambda path: os.utime(path, ns=(0, os.stat(path).st_mtime_ns + 1)),
 ], ids=["inode", "time"])
 @pytest.mark.parametrize("ask, why", [
     (lambda each: pickle.loads(pickle.dumps(each)).length("a", "c"), "no other process can read it again"),
@@ -137,15 +135,15 @@ def made_town(tmp_path_factory):
         yield hierarchy
 
 
-@pytest.mark.parametrize("form, towards", [("polygons", False), ("polygons", True), ("lines", False), ("roads", False), ("roads", True)])
+@pytest.mark.parametrize("form, towards", itertools.product(["polygons", "lines", "roads"], [False, True]))
 def test_within(made_town, form, towards):
     """What features makes of the model's lengths, and each contour within the next."""
     at, net = (float(made_town.network.lon[300]), float(made_town.network.lat[300])), made_town.network.roads.arrays
     found = made_town.within(at, [0.5, 1, 1.5], shape=form, towards=towards)
     reach = Reach(net, lengths(net, {300: 0}, towards), [30_000, 60_000, 90_000], towards=towards)
     assert found == features(reach, [0.5, 1, 1.5], "time", isochrones.Style(form, attribution="© the town"))
-    large, middle, small = (shape(each["geometry"]) for each in found["features"])
-    assert {each.geom_type.removeprefix("Multi") for each in (large, middle, small)} == {"Polygon" if form == "polygons" else "LineString"}
+    large, middle, small = shapes = [shape(each["geometry"]) for each in found["features"]]
+    assert {each.geom_type.removeprefix("Multi") for each in shapes} == {"Polygon" if form == "polygons" else "LineString"}
     if form == "polygons":
         assert large.is_valid and large.covers(middle) and middle.covers(small) and small.contains(Point(at))
 
@@ -157,8 +155,8 @@ def test_within(made_town, form, towards):
     ({"minutes": [1e300]}, "too much"), ({"minutes": [5, 600.5]}, "600.5 minutes are too much: there may be 600"),
     ({"minutes": [float("nan")]}, "above 0"), ({"minutes": [0, 1]}, "above 0"), ({"minutes": [float("inf")]}, "above 0"),
     ({"metres": ["5"]}, "above 0"), ({"colors": ["ff00000"] * 3}, "hexadecimal"), ({"colors": ["#ff000"] * 3}, "hexadecimal"),
-    ({"colors": ["ff0000"]}, "3 limits, and 3 numbers and 1 colours"), ({"colors": 5}, "hexadecimal"), ({"colors": [5] * 3}, "hexadecimal"),
-    *(({name: wrong}, f"{name} has .* {wrong}$") for name in ("denoise", "generalize") for wrong in (-0.1, "x", float("nan"), float("inf"))),
+    ({"colors": ["ff0000"]}, "3 limits, and 3 numbers and 1"), ({"colors": 5}, "hexadecimal"), ({"colors": [5] * 3}, "hexadecimal"),
+    *(({name: wrong}, f"{name} has .* {wrong}$") for name in ("denoise", "generalize") for wrong in (-0.1, "x", np.nan, np.inf)),
     ({"denoise": 1.1}, "denoise has .* 1.1"), ({"shape": "circles"}, "polygons, lines, roads, and is 'circles'"),
 ])
 def test_arguments_that_are_refused(row, words, says):

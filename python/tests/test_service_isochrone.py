@@ -36,6 +36,7 @@ class IsochroneTests(ServiceCase):
                  "generalize": "5", "access_token": "pk.eyJ1"}
         told = self.ask(f"/isochrone/v1/mapbox/driving/0.002,0?{urllib.parse.urlencode(words)}")
         self.assertEqual(told, (200, self.drawn([1, 1.5, 3], generalize=5, denoise=0.5, colors=colors)))
+        self.assertEqual([each["properties"]["fill"] for each in told[1]["features"]], [f"#{color}" for color in colors[::-1]])
         self.assertEqual(self.headers["Content-Type"], "application/json; charset=utf-8")
         answer = self.raw(f"HEAD {PATH}?contours_minutes=0.1 HTTP/1.1\r\nHost: x\r\n\r\n".encode())
         self.assertTrue(answer.startswith(b"HTTP/1.1 200 OK\r\n") and answer.endswith(b"\r\n\r\n"), answer[:200])
@@ -55,8 +56,8 @@ class IsochroneTests(ServiceCase):
             status, told = self.ask(f"{PATH}?{query}")
             self.assertEqual((status, told["code"], says in told["message"]), (400, code, True), told)
         for path, code in [
-            ("v2/car/0,0", "InvalidVersion"), ("v1/0,0", "InvalidUrl"), ("v1/a/b/c/0,0", "InvalidUrl"), ("v1/a,b/0,0", "InvalidUrl"),
-            ("v1/car/0,0;1,1", "InvalidQuery"), ("v1/car/x", "InvalidQuery"), ("v1/car/0,91", "InvalidValue"),
+            *((path, "InvalidUrl") for path in ("v1/0,0", "v1/a/b/c/0,0", "v1/a,b/0,0")), ("v2/car/0,0", "InvalidVersion"),
+            ("v1/car/0,0;1,1", "InvalidQuery"), ("v1/car/x", "InvalidQuery"), ("v1/car/0,91", "InvalidValue")
         ]:
             status, told = self.ask(f"/isochrone/{path}?contours_minutes=5")
             self.assertEqual((status, told["code"]), (400, code), told)

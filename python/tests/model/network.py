@@ -193,8 +193,8 @@ class Network:
         is_bend = len(aside) == 2 and near[-1] - near[0] < len(near)
         if abs(sum(aside)) < 1e-3 or not is_bend and min(aside) < 0 < max(aside):
             raise Ambiguous
-        here = {arc for arc, is_along in edge.arcs.items() if is_along == ((sum(aside) > 0) == self.is_left)}
-        kept = frozenset(here if point.arcs is None else here & point.arcs)
+        some = edge.arcs if point.arcs is None else point.arcs
+        kept = frozenset(arc for arc in some if edge.arcs[arc] == ((sum(aside) > 0) == self.is_left))
         return point._replace(arcs=kept) if kept else None
 
     def point_on(self, number: int, step: int, share: float, metres: float, bearings: Bearings) -> SnappedPoint | None:

@@ -16,7 +16,8 @@ def reached(network: Network, points: Sequence[SnappedPoint], limit: int) -> dic
     first = [part for point in points for part in network.parts_at(point, True).values()]
     # (arcs, from which share on, and what is spent at their starts)
     ways = [(arc, begin, rest - network.arcs[arc].weight) for arc, begin, _, rest in first]
-    ways += [(other, 0.0, spent) for arc, spent in network.ended(first).items() if spent <= limit for other in network.followers[arc]]
+    ended = [(arc, spent) for arc, spent in network.ended(first).items() if spent <= limit]
+    ways += [(other, 0.0, spent) for arc, spent in ended for other in network.followers[arc]]
     found: dict[int, Shares] = {}
     for arc, begin, spent in ways:
         edge, whole = network.edge_of[arc], network.arcs[arc].weight
