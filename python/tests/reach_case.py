@@ -35,7 +35,6 @@ def network(nodes, roads):
 
 
 def arrays(nodes, roads):
-    """The arrays of such a network."""
     places = [(lon, lat, *(more or ("", number))) for number, (lon, lat, *more) in enumerate(nodes)]
     table = [(number, osm, lon, lat, ends) for number, (lon, lat, ends, osm) in enumerate(places, 1)]
     rows = []

@@ -4,7 +4,6 @@ import functools
 import itertools
 import math
 import pathlib
-import re
 import tempfile
 from typing import Any
 from unittest import mock
@@ -310,7 +309,6 @@ def check_tour(found: Any, weights: Any, roundtrip: bool, source: str, destinati
 
 
 def least_tour(weights: Any, roundtrip: bool, source: str, destination: str) -> int | None:
-    """The least weight of all orders, by enumeration."""
     last, sums = len(weights) - 1, []
     for order in itertools.permutations(range(len(weights))):
         if (source == "any" or order[0] == 0) and (destination == "any" or order[-1] == last):
@@ -322,7 +320,6 @@ def least_tour(weights: Any, roundtrip: bool, source: str, destination: str) -> 
 @drawn(60)
 @given(st.data())
 def test_orders_by_enumeration(data: Any) -> None:
-    """Up to seven places by all orders."""
     count = data.draw(st.sampled_from([1, 2, 3, 5, 7]))
     cell = st.one_of(st.integers(0, 40), st.integers(0, 40), st.just(FAR))
     lengths = np.array(data.draw(st.lists(cell, min_size=count**2, max_size=count**2)), np.int64).reshape(count, count)
@@ -440,9 +437,9 @@ def test_limits_of_tables_and_tours(village: Any) -> None:
     for act, radius in itertools.product((village.directions, village.table, village.nearest), ("5", True, None, math.nan)):
         with pytest.raises(ValueError, match="radius.* to be numbers, and one is"):
             act(*((0.0, 0.0) if act == village.nearest else [PLACES]), radius=radius)
-    for places, words, says in ((PLACES, {"source": "last"}, "source has to be"), (PLACES * 200, {}, "1 to 500 places")):
+    for spots, words, says in ((PLACES, {"source": "last"}, "source has to be"), (PLACES * 200, {}, "1 to 500 places")):
         with pytest.raises(ValueError, match=says):
-            village.tour(places, **words)
+            village.tour(spots, **words)
     with mock.patch.object(tours, "MAX_PLACES", 2):
         assert village.tour(PLACES[:2], roundtrip=False) is not None
         with pytest.raises(ValueError, match="has 1 to 2 places, and not 3"):

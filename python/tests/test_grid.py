@@ -16,7 +16,7 @@ from model.network import Arc, Network, Node
 from reach_case import MILLI, Road, arrays, network, prepared
 
 from domethyme.network import grid, parallel, zoom_levels
-from domethyme.network.geo import metres_between
+from domethyme.network.geo import bearing, metres_between
 from domethyme.network.indexes import bounding_box, edge_grid, edge_segments, node_degrees, node_grid
 from domethyme.network.snapping import RoadIndex
 from domethyme.network.sphere import great_circle_metres, nearest_on_segments, unit_vectors
@@ -128,6 +128,13 @@ def test_the_other_side_of_the_earth():
         assert both == pytest.approx([sphere.EARTH_RADIUS * math.pi] * 2)
     (metres,), shares = nearest_on_segments(np.zeros((1, 2)), np.array([[[170.0, 0.0]], [[-110.0, 0.0]]]))
     assert (metres, shares.tolist()) == (pytest.approx(sphere.EARTH_RADIUS * math.radians(110)), [1.0])
+
+
+@pytest.mark.parametrize("begin, end, degrees", [
+    ((0, 0), (-1e-5, 0.01), 0), ((180, 60), (-179.98, 60.01), 45), ((0, 0), (0.0158, 0.01), 58), ((0, 0), (-0.01, 0), 270)
+])
+def test_bearings_in_whole_degrees(begin, end, degrees):
+    assert bearing(begin, end) == degrees
 
 
 def test_steps_by_kind_and_cell(monkeypatch):

@@ -74,7 +74,6 @@ def test_no_package_imports_one_above_and_no_circle():
 
 @pytest.mark.parametrize("package", [name for name in BELOW if name != "domethyme_launcher"])
 def test_alone(tmp_path, package):
-    """With what is below it and nothing else."""
     for name in {package} | BELOW[package]:
         path = path_of(name)
         source = path if path.parent == PYTHON else path.parent

@@ -65,9 +65,8 @@ def test_a_place_at_a_node_from_which_one_road_is_taken():
 
 
 @pytest.mark.parametrize("values, limits", [
-    (np.zeros(3, np.int64), [1]), (np.zeros(6), [1]), (np.zeros(6, np.uint64), [1]),
-    (np.zeros(6, np.int64), []), (np.zeros(6, np.int64), [-1]), (np.zeros(6, np.int64), [2, 2]),
-    (np.zeros(6, np.int64), range(128)),
+    *((np.zeros(6, np.int64), limits) for limits in ([], [-1], [2, 2], range(128))), (np.zeros(6), [1]),
+    (np.zeros(6, np.uint64), [1]), (np.zeros(3, np.int64), [1]),
 ])
 def test_what_does_not_fit(values, limits):
     with pytest.raises(ValueError):
