@@ -1,5 +1,5 @@
 """Files to write that are whole after a with-block, or as they were before it. A write that fails raises OSError with the
-name of the file; the word `-` is standard output.
+name of the file; the word `-` is standard output, as are its names in /dev.
 """
 import contextlib
 import errno
@@ -15,12 +15,14 @@ from typing import IO, Any
 
 from .program import StrPath
 
+STANDARD_OUTPUT = ("-", "/dev/stdout", "/dev/fd/1")
+
 
 @contextlib.contextmanager
 def atomic_write(path: StrPath, mode: str = "w") -> Iterator[IO[Any]]:
     """A file to write: whole after the block, or as it was where the block ends by an exception. Pipes, devices and
     standard output are written straight. Mode "w" is UTF-8 text, "wb" bytes."""
-    if str(path) == "-":
+    if str(path) in STANDARD_OUTPUT:
         if isinstance(sys.stdout, io.TextIOWrapper):
             sys.stdout.reconfigure(encoding="utf-8", newline="\n")
         yield sys.stdout if mode == "w" else sys.stdout.buffer  # type: ignore[misc]
