@@ -14,8 +14,8 @@ With --tables there are these too, for other programs:
                   ref, `structure` tunnel or bridge, `toll` yes, WKT its line, longitude first
   OUT.nodes.csvt, OUT.nodes.prj, OUT.arcs.csvt, OUT.arcs.prj    the types and the projection of these tables, for GDAL and QGIS
 
-Without it tables of an earlier run are removed, since they are of another network. Tables that weren't written by the tools, or
-that were edited since, are never overwritten or removed.
+Without it tables of an earlier run are removed, since they are of another network. Tables and files beside them that weren't
+written by the tools, or that were edited since, are never overwritten or removed.
 
 A weight is milliseconds by the profile's speeds, or centimetres with --weight length. It is rounded, and raised to 1
 where it would be 0. Nodes are the ends, junctions and barriers of roads, and points between that keep each arc within

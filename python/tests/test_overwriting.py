@@ -96,6 +96,10 @@ class OverwritingTests(ToolCase):
         for output in (subprocess.PIPE, subprocess.DEVNULL):
             words = [TOOLS / "nearest", "net", "trips.csv", "-o", "/dev/null", "--snapped", "/dev/null"]
             subprocess.run(words, cwd=self.folder, stdout=output, check=True)
+        with open(self.folder / "told", "w+") as file:  # (of which standard output isn't the beginning)
+            for output in ("-", "/dev/stdout", "/dev/fd/1"):
+                subprocess.run([TOOLS / "nearest", "net", "trips.csv", "-o", output], cwd=self.folder, stdout=file, check=True)
+        self.assertEqual((self.folder / "told").read_text().count("q 1 2"), 3)
 
     def test_standard_output(self):
         """A pipe, by its names."""
@@ -124,6 +128,10 @@ class OverwritingTests(ToolCase):
         said = self.run_tool("osm_to_gr", VILLAGE, "v").stderr
         self.assertIn("osm_to_gr: removed v.nodes.csv, v.arcs.csv, v.nodes.csvt, v.nodes.prj, v.arcs.csvt, which were of", said)
         self.assertEqual(sorted(path.suffix for path in self.folder.glob("v.*")), [".gr", ".net", ".prj"])
+        says = "v.arcs.prj: is there, and no tool has written it: move it, or choose another OUT"
+        self.assert_kept("osm_to_gr", VILLAGE, "v", "--tables", status=1, says=says)
+        self.assert_kept("to_network", "firm.nodes.csv", "firm.arcs.csv", "v", "--tables", status=1, says=says)
+        (self.folder / "v.arcs.prj").unlink()
         self.run_tool("osm_to_gr", VILLAGE, "v", "--tables")
         with open(self.folder / "v.arcs.csv", "a", encoding="utf-8") as file:
             file.write("1,2,7,1,1,0,,,\n")

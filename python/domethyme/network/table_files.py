@@ -26,12 +26,14 @@ ROWS_AT_ONCE = 1 << 16
 def tables_there(names: Files, are_written: bool) -> list[str]:
     """The tables of a network that the tools have written, and the files for GDAL beside them.
 
-    Raises a NetworkError where tables are to be written in the place of a user's own, and where one of the tools was edited
+    Raises a NetworkError where these are to be written in the place of a user's own, and where one of the tools was edited
     since, as far as its size shows: it would be read in place of the new network, and may not be lost."""
     kinds = {names.nodes: ALL_NODE_COLUMNS, names.arcs: ALL_ARC_COLUMNS}
     found = [path for path, columns in kinds.items() if is_written_by_tools(path, columns)]
-    for path in kinds:
-        if are_written and os.path.isfile(path) and path not in found:
+    texts = {path: (f"{text}\n", f"{names.forms_of(has_keys=True)[path]}\n") for path, text in names.forms.items()}
+    forms = [path for path in filter(os.path.isfile, texts) if pathlib.Path(path).read_text("utf-8", "replace") in texts[path]]
+    for path in (*kinds, *texts) if are_written else ():
+        if os.path.isfile(path) and path not in (*found, *forms):
             raise NetworkError("is there, and no tool has written it: move it, or choose another OUT", path)
     # (a file of the network that is damaged doesn't say that they have changed)
     is_current = True
@@ -39,8 +41,6 @@ def tables_there(names: Files, are_written: bool) -> list[str]:
         is_current = not found or not os.path.exists(names.binary) or net_file.is_current(names.path)
     if not is_current:
         raise NetworkError(f"has changed since {names.binary} was made of it: move it, or choose another OUT", found[0])
-    texts = {path: (f"{text}\n", f"{names.forms_of(has_keys=True)[path]}\n") for path, text in names.forms.items()}
-    forms = [path for path in filter(os.path.isfile, texts) if pathlib.Path(path).read_text("utf-8", "replace") in texts[path]]
     return [*found, *forms] if found else []
 
 
