@@ -155,9 +155,24 @@ class Village(NetworkCase):
         self.assertEqual(read_attribution(self.folder / "village"), "© OpenStreetMap contributors (ODbL 1.0)")
         self.convert("--attribution", "Drawn\nby hand")
         self.assertEqual(read_attribution(self.folder / "village"), "Drawn by hand")
+        self.convert("--attribution", "caf\udce9")  # (an argument that isn't UTF-8)
+        self.assertEqual(read_attribution(self.folder / "village"), "caf?")
         self.convert("--attribution", "")
         self.assertEqual(read_attribution(self.folder / "village"), "")
         self.assertEqual(self.graph().nodes, 35)
+
+    def test_at_least(self):
+        """Of ten nodes, of which one is beyond a one-way street."""
+        nodes = "".join(f"<node id='{x}' lon='{x / 1000}' lat='0'/>" for x in range(10))
+        road = "<nd ref='1'/><nd ref='9'/><tag k='highway' v='road'/>"
+        ways = f"<way id='1'>{road}</way><way id='2'>{road.replace('9', '0')}<tag k='oneway' v='yes'/></way>"
+        self.write("ten.osm", MAP.format(nodes + ways))
+        words = "ten.osm", "ten", "--longest-arc", "112", "--at-least"
+        for share, says in (("0.9", None), ("0.905", "less than 90.5%"), ("1", "less than 100%")):
+            if says is None:
+                self.run_tool("osm_to_gr", *words, share)
+            else:
+                self.assert_refused("osm_to_gr", *words, share, says=f"ten.osm: 9 of 10 nodes reach one another, {says}: is the map cut")
 
     def test_histories_and_changes_are_no_maps(self):
         """In which roads that are gone, or are to come, lie beside those of the map."""

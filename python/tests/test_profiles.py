@@ -241,8 +241,8 @@ class PenaltyTests(ToolCase):
         self.assertEqual(weights[0], weights[1])
 
     def test_seconds_have_the_penalty(self):
-        self.write("map.osm", crossing())
-        said = self.run_tool("osm_to_gr", "map.osm", "map", "--tables", "--profile", "turns.json").stderr
+        self.write("map.osm", crossing((2, 3, {"restriction": "no_left_turn"})))
+        said = self.run_tool("osm_to_gr", "map.osm", "map", "--tables", "--profile", "turns.json", "--ignore-turn-restrictions").stderr
         self.assertIn("osm_to_gr: nodes split by turns: 5\n", said)
         rows = [line.split(",") for line in (self.folder / "map.arcs.csv").read_text().splitlines()[1:]]
         self.assertEqual({float(row[3]) * 1000 - int(row[2]) for row in rows}, {0.0})

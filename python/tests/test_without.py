@@ -176,7 +176,7 @@ def convert(tmp_path, monkeypatch):
 
 @pytest.mark.parametrize("duration, seconds", [
     *(("72", 4320), ("01:12", 4320), (" 1:12:10 ", 4330), ("PT72M", 4320), ("PT1H12M10S", 4330), ("PT4330S", 4330)),
-    *((wrong, None) for wrong in ("", "soon", "0", "12:99", "PT", "P1D", "-5", "1.5"))
+    *((wrong, None) for wrong in ("", "soon", "0", "12:99", "PT", "P1D", "-5", "1.5", "1200:00"))
 ])
 def test_durations(convert, duration, seconds):
     """Each form of 72 minutes and 10 seconds, or none, for both directions; and else 5 km/h."""

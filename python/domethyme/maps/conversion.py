@@ -162,16 +162,17 @@ def convert(
         raise MapError("has no road that the profile takes", path)
     with folder.step("junctions"):
         network, node_at = build_network(runs, read.roads, read.places)
-    if not options.ignore_turn_restrictions:
-        with folder.step("turns"):
-            network = split_junctions(network, turn_rules(read, folder, node_at, report), profile.turns, report)
+    with folder.step("turns"):
+        rules = {} if options.ignore_turn_restrictions else turn_rules(read, folder, node_at, report)
+        network = split_junctions(network, rules, profile.turns, report)
     del node_at
     if not options.keep_islands:
         with folder.step("islands"):
             network = keep_largest(network, report)
-        if (left_out := report[OUTSIDE]) > (1 - options.at_least) * (left_out + len(network.node_osm)):
-            share = f"{len(network.node_osm)} of {left_out + len(network.node_osm)} nodes reach one another"
-            raise MapError(f"{share}, less than {options.at_least:.0%}: is the map cut, or has it lost roads?", path)
+        count, least = len(network.node_osm), float(options.at_least)
+        if count / (count + report[OUTSIDE]) < least:
+            share = f"{count} of {count + report[OUTSIDE]} nodes reach one another"
+            raise MapError(f"{share}, less than {100 * least:g}%: is the map cut, or has it lost roads?", path)
     check_limits(len(network.node_osm), len(network.start), path)
     return network, read.rows_of
 
