@@ -216,6 +216,13 @@ def map_text(nodes: Mapping[int, Point], ways: Mapping[int, tuple[Sequence[int],
     return f"<osm version='0.6'>{''.join(text)}{more}</osm>"
 
 
+def converted(folder: pathlib.Path, text: str, *words: object) -> tuple[str, Any]:
+    """What `osm_to_gr` says of a map with this text, and the frame of its arcs; files are map.* in the folder."""
+    (folder / "map.osm").write_text(text, encoding="utf-8")
+    said = run_tool("osm_to_gr", folder / "map.osm", folder / "map", *words)[1]
+    return said, domethyme.Network(folder / "map").arcs_frame()
+
+
 # Places and requests
 
 

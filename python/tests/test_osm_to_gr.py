@@ -4,15 +4,17 @@ import bz2
 import collections
 import contextlib
 import gzip
-import json
+import pathlib
 import xml.etree.ElementTree as xml
 
 import osmium
-from draws import run_tool
-from tool_case import PYTHON, VILLAGE, ToolCase, read_rows
+import pytest
+from draws import converted, run_tool
+from tool_case import VILLAGE, ToolCase, osm_map, read_rows
 
-import domethyme
 from domethyme.dimacs import read_graph
+from domethyme.errors import DomethymeError
+from domethyme.maps.conversion import options_of
 from domethyme.network.tables import ALL_ARC_COLUMNS, read_attribution
 from domethyme_tools.osm_to_gr import longest_arc, share
 
@@ -67,201 +69,143 @@ def arcs_by_time(pieces):
     return collections.Counter(forward + backward)
 
 
-class NetworkCase(ToolCase):
-    """Tests that read the network that they have made in their folder."""
-
-    def convert(self, *words, source=VILLAGE, out="village"):
-        return self.run_tool("osm_to_gr", source, out, "--tables", *words)
-
-    def nodes(self, out="village"):
-        return read_rows(self.folder / f"{out}.nodes.csv")
-
-    def rows(self, out="village"):
-        return read_rows(self.folder / f"{out}.arcs.csv")
-
-    def graph(self, out="village"):
-        return read_graph(self.folder / f"{out}.gr")
-
-    def labels(self, out="village"):
-        """The name of each node by its number: its id in the map, or its place in the drawing."""
-        return {each.node: each.osm or f"({each.lon * 1000:.3f}, {each.lat * 1000:.3f})" for each in self.nodes(out)}
-
-    def drawn(self, out="village"):
-        """How often each (way, from, to, weight) comes among the rows."""
-        label = self.labels(out)
-        return collections.Counter((arc.name, label[arc.start], label[arc.end], arc.weight) for arc in self.rows(out))
-
-    def files(self, out="village"):
-        return [(self.folder / f"{out}{ending}").read_bytes() for ending in (".gr", ".nodes.csv", ".arcs.csv")]
+@pytest.fixture(autouse=True)
+def folder(tmp_path, monkeypatch):
+    monkeypatch.chdir(tmp_path)
+    return tmp_path
 
 
-class Village(NetworkCase):
-    def test_arcs_are_those_of_the_drawing(self):
-        self.convert("--at-least", "0.92")
-        self.assertEqual(self.drawn(), arcs_by_time(DRAWING))
-
-    def test_islands_are_kept_where_asked_for(self):
-        self.convert("--keep-islands")
-        self.assertEqual(self.drawn(), arcs_by_time(DRAWING + ISLANDS))
-
-    def test_what_was_left_out_is_counted(self):
-        self.assertEqual(self.convert().stderr, LEFT_OUT)
-
-    def test_rows(self):
-        """Arcs are as in the graph; nodes are where the map has them, two at a barrier; and lines follow the road, in the arc's direction,
-        and repeat no point where it is cut at one."""
-        self.convert()
-        graph, rows, nodes, label = self.graph(), self.rows(), self.nodes(), self.labels()
-        self.assertEqual(graph.nodes, len(nodes))
-        arcs = [(arc.start - 1, arc.end - 1, arc.weight) for arc in rows]
-        self.assertEqual(list(zip(graph.starts, graph.ends, graph.weights)), arcs)
-        places = {int(node.get("id")): (float(node.get("lon")), float(node.get("lat"))) for node in map_of("node")}
-        for node in nodes:
-            if node.osm is not None:
-                self.assertEqual((node.lon, node.lat), places[node.osm])
-        osm = [node.osm for node in nodes]
-        self.assertEqual([osm.count(node) for node in (None, 53, 71, 57, 81)], [3, 2, 2, 0, 0])
-        figures = {(arc.name, arc.weight): (arc.seconds, arc.metres, arc.osm, arc.highway) for arc in rows}
-        for name, weight, *wanted in [
-            ("High Street", 16012, 16.012, 222.39, 101, "tertiary"), ("Long Road", 6672, 6.672, 185.33, 103, "secondary"),
-            ("Top Street", 20015, 20.015, 222.39, 106, "residential"), ("Twin Link", 1, 0, 0, 109, "residential"),
-            ("M1", 6158, 6.158, 222.39, 123, "motorway"),
-        ]:
-            self.assertEqual(figures[name, weight], tuple(wanted))
-        lines = {(arc.name, label[arc.start], label[arc.end]): arc.wkt for arc in rows}
-        bend = ["0.0000000 0.0000000", "0.0000000 0.0010000", "0.0010000 0.0010000"]
-        self.assertEqual(lines["Bend Lane", 1, 12], f"LINESTRING ({', '.join(bend)})")
-        self.assertEqual(lines["Bend Lane", 12, 1], f"LINESTRING ({', '.join(reversed(bend))})")
-        long = "LINESTRING (-0.0016667 0.0000000, -0.0033333 0.0000000)"
-        self.assertEqual(lines["Long Road", FIRST_CUT, SECOND_CUT], long)
-        first = ["-0.0050000 0.0000000", "-0.0050000 0.0005000", "-0.0055000 0.0005000"]
-        second = ["-0.0055000 0.0005000", "-0.0055000 0.0000000", "-0.0050000 0.0000000"]
-        both = {f"LINESTRING ({', '.join(line[::step])})" for line in (first, second) for step in (1, -1)}
-        self.assertEqual({arc.wkt for arc in rows if arc.name == "The Ring"}, both)
-
-    def test_shorter_arcs(self):
-        self.convert("--longest-arc", "92.7", "--weight", "length")
-        drawn = self.drawn()
-        # 2 steps are three parts of 74.13 m, 1 step two of 55.60 m, and 5 steps six of 92.66 m
-        self.assertEqual(max(arc.metres for arc in self.rows()), 92.66)
-        self.assertEqual(drawn["Bypass", 7, "(12.000, -0.500)", 5560], 0)
-        self.assertEqual(drawn["High Street", 1, "(0.667, 0.000)", 7413], 1)
-        self.assertEqual(drawn["High Street", "(1.333, 0.000)", 2, 7413], 1)
-        self.assertEqual(drawn["Up Street", "(2.000, 0.500)", 21, 5560], 1)
-        self.assertEqual(drawn["Twin Link", 32, 33, 1], 1)
-
-    def test_attribution_is_a_comment_of_the_graph(self):
-        self.convert()
-        self.assertEqual(read_attribution(self.folder / "village"), "© OpenStreetMap contributors (ODbL 1.0)")
-        self.convert("--attribution", "Drawn\nby hand")
-        self.assertEqual(read_attribution(self.folder / "village"), "Drawn by hand")
-        self.convert("--attribution", "caf\udce9")  # (an argument that isn't UTF-8)
-        self.assertEqual(read_attribution(self.folder / "village"), "caf?")
-        self.convert("--attribution", "")
-        self.assertEqual(read_attribution(self.folder / "village"), "")
-        self.assertEqual(self.graph().nodes, 35)
-
-    def test_at_least(self):
-        """Of ten nodes, of which one is beyond a one-way street."""
-        nodes = "".join(f"<node id='{x}' lon='{x / 1000}' lat='0'/>" for x in range(10))
-        road = "<nd ref='1'/><nd ref='9'/><tag k='highway' v='road'/>"
-        ways = f"<way id='1'>{road}</way><way id='2'>{road.replace('9', '0')}<tag k='oneway' v='yes'/></way>"
-        self.write("ten.osm", MAP.format(nodes + ways))
-        words = "ten.osm", "ten", "--longest-arc", "112", "--at-least"
-        for share, says in (("0.9", None), ("0.905", "less than 90.5%"), ("1", "less than 100%")):
-            if says is None:
-                self.run_tool("osm_to_gr", *words, share)
-            else:
-                self.assert_refused("osm_to_gr", *words, share, says=f"ten.osm: 9 of 10 nodes reach one another, {says}: is the map cut")
-
-    def test_histories_and_changes_are_no_maps(self):
-        """In which roads that are gone, or are to come, lie beside those of the map."""
-        text = VILLAGE.read_text(encoding="utf-8").replace("<osm ", "<osmChange ").replace("'hand'>", "'hand'><create>")
-        self.write("change.osc", text.replace("</osm>", "</create></osmChange>"))
-        with contextlib.closing(osmium.SimpleWriter(str(self.folder / "map.osh.pbf"))) as file:
-            for number, version in ((1, 1), (1, 2), (2, 1)):
-                file.add_node(osmium.osm.mutable.Node(id=number, version=version, visible=True, location=(number / 1000, 0)))
-        for name in ("change.osc", "map.osh.pbf"):
-            self.assert_refused("osm_to_gr", name, "new", says=f"{name}: has several versions of an object, as a history or a change")
-
-    def test_old_files_are_replaced(self):
-        for ending, text in (("gr", "old"), ("nodes.csv", "node,osm,lon,lat,ends,key\n"), ("arcs.csv", f"{','.join(ALL_ARC_COLUMNS)}\n")):
-            self.write(f"village.{ending}", text)
-        self.convert()
-        self.assertEqual(self.drawn(), arcs_by_time(DRAWING))
-        self.assertEqual(len(self.contents()), 8)
-
-    def test_what_gdal_wants_to_know(self):
-        self.convert()
-        for table in ("nodes", "arcs"):
-            head = (self.folder / f"village.{table}.csv").read_text().partition("\n")[0].split(",")
-            kinds = dict(zip(head, (self.folder / f"village.{table}.csvt").read_text().strip().split(","), strict=True))
-            whole = {name for name, kind in kinds.items() if kind in ('"Integer"', '"Integer64"')}
-            self.assertEqual(whole, {"node", "osm"} if table == "nodes" else {"from", "to", "weight", "osm"})
-            self.assertEqual(kinds.get("WKT"), None if table == "nodes" else '"WKT"')
-            self.assertIn('AUTHORITY["EPSG","4326"]', (self.folder / f"village.{table}.prj").read_text())
+def convert(*words, source=VILLAGE, out="village"):
+    return run_tool("osm_to_gr", source, out, "--tables", *words)[1]
 
 
-class Forms(NetworkCase):
-    """The village in other orders and formats gives the same files."""
-
-    def test_formats_and_orders(self):
-        """Of bzip2, of PBF, and with ways before nodes and nodes from the last to the first."""
-        (self.folder / "village.osm.bz2").write_bytes(bz2.compress(VILLAGE.read_bytes()))
-        write_map(self.folder / "village.osm.pbf", VILLAGE)
-        tree = xml.parse(VILLAGE)
-        ways, others = ([entry for entry in tree.getroot() if (entry.tag == "way") == is_way] for is_way in (True, False))
-        tree.getroot()[:] = ways + others[::-1]
-        tree.write(self.folder / "turned.osm")
-        self.convert()
-        for source in ("village.osm.bz2", "village.osm.pbf", "turned.osm"):
-            with self.subTest(source=source):
-                self.convert(source=source, out="other")
-                self.assertEqual(self.files("other"), self.files())
-
-    def test_way_order_changes_the_numbers_only(self):
-        tree = xml.parse(VILLAGE)
-        tree.getroot()[:] = list(reversed(tree.getroot()))
-        tree.write(self.folder / "turned.osm")
-        self.convert(source="turned.osm")
-        self.assertEqual(self.drawn(), arcs_by_time(DRAWING))
-
-    def test_negative_ids(self):
-        text = VILLAGE.read_text(encoding="utf-8")
-        for attribute in ("id", "ref"):
-            text = text.replace(f"{attribute}='", f"{attribute}='-")
-        self.write("negative.osm", text)
-        self.convert(source="negative.osm")
-        expected = collections.Counter()
-        for (way, *ends, weight), count in arcs_by_time(DRAWING).items():
-            expected[way, *(-end if isinstance(end, int) else end for end in ends), weight] = count
-        self.assertEqual(self.drawn(), expected)
+def drawn(out="village"):
+    """How often each (way, from, to, weight) comes among the rows. A node is named by its id in the map, or its place in the drawing."""
+    label = {each.node: each.osm or f"({each.lon * 1000:.3f}, {each.lat * 1000:.3f})" for each in read_rows(f"{out}.nodes.csv")}
+    return collections.Counter((arc.name, label[arc.start], label[arc.end], arc.weight) for arc in read_rows(f"{out}.arcs.csv"))
 
 
-def map_of(kind):
-    """The elements of a kind of the village."""
-    return xml.parse(VILLAGE).getroot().iter(kind)
+def test_arcs_are_those_of_the_drawing():
+    """In the place of old files; islands are kept where that is asked for; and what was left out is counted."""
+    for ending, text in (("gr", "old"), ("nodes.csv", "node,osm,lon,lat,ends,key\n"), ("arcs.csv", f"{','.join(ALL_ARC_COLUMNS)}\n")):
+        pathlib.Path(f"village.{ending}").write_text(text)
+    assert convert("--at-least", "0.92") == LEFT_OUT
+    assert drawn() == arcs_by_time(DRAWING) and len([*pathlib.Path().iterdir()]) == 8
+    convert("--keep-islands")
+    assert drawn() == arcs_by_time(DRAWING + ISLANDS)
+
+
+def test_rows():
+    """Arcs are as in the graph; nodes are where the map has them, two at a barrier; and lines follow the road, in the arc's direction,
+    and repeat no point where it is cut at one."""
+    convert()
+    graph, rows, nodes = read_graph("village.gr"), read_rows("village.arcs.csv"), read_rows("village.nodes.csv")
+    assert graph.nodes == len(nodes)
+    assert [*zip(graph.starts, graph.ends, graph.weights)] == [(arc.start - 1, arc.end - 1, arc.weight) for arc in rows]
+    of_map = xml.parse(VILLAGE).getroot().iter("node")
+    places = {int(node.get("id")): (float(node.get("lon")), float(node.get("lat"))) for node in of_map}
+    assert all((node.lon, node.lat) == places[node.osm] for node in nodes if node.osm is not None)
+    osm = [node.osm for node in nodes]
+    assert [osm.count(node) for node in (None, 53, 71, 57, 81)] == [3, 2, 2, 0, 0]
+    figures = {(arc.name, arc.weight): (arc.seconds, arc.metres, arc.osm, arc.highway) for arc in rows}
+    for name, weight, *wanted in [
+        ("High Street", 16012, 16.012, 222.39, 101, "tertiary"), ("Long Road", 6672, 6.672, 185.33, 103, "secondary"),
+        ("Top Street", 20015, 20.015, 222.39, 106, "residential"), ("Twin Link", 1, 0, 0, 109, "residential"),
+        ("M1", 6158, 6.158, 222.39, 123, "motorway"),
+    ]:
+        assert figures[name, weight] == tuple(wanted)
+    lines = {(arc.name, osm[arc.start - 1], osm[arc.end - 1]): arc.wkt for arc in rows}
+    bend = ["0.0000000 0.0000000", "0.0000000 0.0010000", "0.0010000 0.0010000"]
+    assert lines["Bend Lane", 1, 12] == f"LINESTRING ({', '.join(bend)})"
+    assert lines["Bend Lane", 12, 1] == f"LINESTRING ({', '.join(reversed(bend))})"
+    between = {arc.wkt for arc in rows if (arc.name, osm[arc.start - 1], osm[arc.end - 1]) == ("Long Road", None, None)}
+    assert between == {"LINESTRING (-0.0016667 0.0000000, -0.0033333 0.0000000)", "LINESTRING (-0.0033333 0.0000000, -0.0016667 0.0000000)"}
+    first = ["-0.0050000 0.0000000", "-0.0050000 0.0005000", "-0.0055000 0.0005000"]
+    second = ["-0.0055000 0.0005000", "-0.0055000 0.0000000", "-0.0050000 0.0000000"]
+    both = {f"LINESTRING ({', '.join(line[::step])})" for line in (first, second) for step in (1, -1)}
+    assert {arc.wkt for arc in rows if arc.name == "The Ring"} == both
+
+
+def test_shorter_arcs():
+    """2 steps are three parts of 74.13 m, 1 step two of 55.60 m, and 5 steps six of 92.66 m."""
+    convert("--longest-arc", "92.7", "--weight", "length")
+    found = drawn()
+    assert max(arc.metres for arc in read_rows("village.arcs.csv")) == 92.66
+    assert [found[key] for key in [
+        ("High Street", 1, "(0.667, 0.000)", 7413), ("High Street", "(1.333, 0.000)", 2, 7413), ("Twin Link", 32, 33, 1),
+        ("Up Street", "(2.000, 0.500)", 21, 5560), ("Bypass", 7, "(12.000, -0.500)", 5560),
+    ]] == [1, 1, 1, 1, 0]
+
+
+@pytest.mark.parametrize("words, wanted", [
+    ([], "© OpenStreetMap contributors (ODbL 1.0)"), (["--attribution", "Drawn\nby hand"], "Drawn by hand"), (["--attribution", ""], ""),
+    (["--attribution", "caf\udce9"], "caf?"),  # (an argument that isn't UTF-8)
+])
+def test_attribution_is_a_comment_of_the_graph(words, wanted):
+    convert(*words)
+    assert (read_attribution("village"), read_graph("village.gr").nodes) == (wanted, 35)
+
+
+@pytest.mark.parametrize("least, says", [("0.9", None), ("0.905", "less than 90.5%"), ("1", "less than 100%")])
+def test_at_least(folder, least, says):
+    """Of ten nodes, of which one is beyond a one-way street."""
+    ways = [((1, 9), {"highway": "road"}), ((1, 0), {"highway": "road", "oneway": "yes"})]
+    refused = pytest.raises(DomethymeError, match=f"9 of 10 nodes reach one another, {says}: is the map cut")
+    with refused if says else contextlib.nullcontext():
+        converted(folder, osm_map({x: (x / 1000, 0) for x in range(10)}, ways), "--longest-arc", "112", "--at-least", least)
+
+
+def test_histories_and_changes_are_no_maps(folder):
+    """In which roads that are gone, or are to come, lie beside those of the map."""
+    text = VILLAGE.read_text(encoding="utf-8").replace("<osm ", "<osmChange ").replace("'hand'>", "'hand'><create>")
+    (folder / "change.osc").write_text(text.replace("</osm>", "</create></osmChange>"))
+    with contextlib.closing(osmium.SimpleWriter("map.osh.pbf")) as file:
+        for number, version in ((1, 1), (1, 2), (2, 1)):
+            file.add_node(osmium.osm.mutable.Node(id=number, version=version, visible=True, location=(number / 1000, 0)))
+    for name in ("change.osc", "map.osh.pbf"):
+        with pytest.raises(DomethymeError, match=f"{name}: has several versions of an object, as a history or a change"):
+            convert(source=name)
+
+
+def test_what_gdal_wants_to_know():
+    convert()
+    for table, whole in (("nodes", {"node", "osm"}), ("arcs", {"from", "to", "weight", "osm"})):
+        head, *_ = pathlib.Path(f"village.{table}.csv").read_text().partition("\n")
+        kinds = dict(zip(head.split(","), pathlib.Path(f"village.{table}.csvt").read_text().strip().split(","), strict=True))
+        assert {name for name, kind in kinds.items() if kind in ('"Integer"', '"Integer64"')} == whole
+        assert kinds.get("WKT") == (None if table == "nodes" else '"WKT"')
+        assert 'AUTHORITY["EPSG","4326"]' in pathlib.Path(f"village.{table}.prj").read_text()
+
+
+def test_formats_and_orders(folder):
+    """The same files come of bzip2, of PBF, and of ways before nodes, and nodes from the last to the first; the order of ways changes
+    numbers only; and ids may be negative."""
+    (folder / "village.osm.bz2").write_bytes(bz2.compress(VILLAGE.read_bytes()))
+    write_map("village.osm.pbf", VILLAGE)
+    text, tree = VILLAGE.read_text(encoding="utf-8"), xml.parse(VILLAGE)
+    (folder / "negative.osm").write_text(text.replace("id='", "id='-").replace("ref='", "ref='-"), encoding="utf-8")
+    ways, others = ([entry for entry in tree.getroot() if (entry.tag == "way") == is_way] for is_way in (True, False))
+    for name, entries in (("turned", ways + others[::-1]), ("backward", ways[::-1] + others)):
+        tree.getroot()[:] = entries
+        tree.write(f"{name}.osm")
+    convert()
+    wanted = arcs_by_time(DRAWING)
+    for source in ("village.osm.bz2", "village.osm.pbf", "turned.osm"):
+        convert(source=source, out="other")
+        for ending in ("gr", "nodes.csv", "arcs.csv"):
+            assert (folder / f"other.{ending}").read_bytes() == (folder / f"village.{ending}").read_bytes(), source
+    convert(source="backward.osm")
+    assert drawn() == wanted
+    convert(source="negative.osm")
+    negative = ((way, *(-end if isinstance(end, int) else end for end in ends), weight) for way, *ends, weight in wanted.elements())
+    assert drawn() == collections.Counter(negative)
 
 
 def write_map(path, source):
-    """Writes a map in the format of the path's ending."""
-    writer = osmium.SimpleWriter(str(path))
-    Copier(writer).apply_file(str(source))
-    writer.close()
-
-
-class Copier(osmium.SimpleHandler):
-    """Gives the nodes and ways of a map to a writer."""
-
-    def __init__(self, writer):
-        super().__init__()
-        self.writer = writer
-
-    def node(self, node):
-        self.writer.add_node(node)
-
-    def way(self, way):
-        self.writer.add_way(way)
+    """Writes the nodes and ways of a map in the format of the path's ending."""
+    with contextlib.closing(osmium.SimpleWriter(str(path))) as writer:
+        methods = {"node": lambda _, node: writer.add_node(node), "way": lambda _, way: writer.add_way(way)}
+        type("Copier", (osmium.SimpleHandler,), methods)().apply_file(str(source))
 
 
 # A map, or a path, with what is said of it.
@@ -284,18 +228,9 @@ BAD_MAPS = [
     ("map.osm.opl", b"n1 x0 y0\nn2 x0.001 y0\nw1 Thighway=residential,name=caf\xe9 Nn1,n2\n",
      "map.osm.opl: 'utf-8' codec can't decode byte 0xe9"),
 ]
-CAR = json.loads((PYTHON / "domethyme/maps/profiles/car.json").read_text(encoding="utf-8"))
-BAD_PROFILES = [
-    ('{\n"speeds": {},\n}\n', ", row 3: isn't JSON"), ([], ": is no object with the members of a profile"),
-    ({key: CAR[key] for key in CAR if key != "closed"}, ": has no member closed"),
-    ({**CAR, "colour": "red"}, ": has the unknown member colour"), ({**CAR, "speeds": {"primary": "70"}}, ": speeds isn't speeds"),
-    ({**CAR, "speeds": {"primary": 0}}, ": speeds isn't speeds from 1 to 1000 by names"),
-    ({**CAR, "maxspeed_words": {"none": True}}, ": maxspeed_words isn't speeds"),
-    ({**CAR, "barriers": "bollard"}, ": barriers isn't a list of words"),
-]
 
 
-class BadInput(NetworkCase):
+class BadInput(ToolCase):
     """Each fault is one line with status 1, and the files are as they were."""
 
     def refused(self, source, *words, says):
@@ -315,22 +250,19 @@ class BadInput(NetworkCase):
         write_map(self.folder / "village.osm.pbf", VILLAGE)
         (self.folder / "half.osm.pbf").write_bytes((self.folder / "village.osm.pbf").read_bytes()[:700])
         self.refused("half.osm.pbf", says="half.osm.pbf: PBF error")
+        self.refused(VILLAGE, "--profile", "boat", says="there is no profile boat: there is bicycle, car, foot, lorry; for another")
+        self.refused(VILLAGE, "--profile", self.write("own.json", "[]"), says="own.json: is no object with the members of a profile")
 
-    def test_profiles_that_are_refused(self):
-        says = "there is no profile boat: there is bicycle, car, foot, lorry; for another"
-        self.refused(VILLAGE, "--profile", "boat", says=says)
-        for members, says in BAD_PROFILES:
-            self.write("own.json", members if isinstance(members, str) else json.dumps(members))
-            with self.subTest(says=says):
-                self.refused(VILLAGE, "--profile", "own.json", says=f"own.json{says}")
-
-    def test_a_folder_in_place_of_out(self):
+    def test_where_files_can_not_be(self):
         before = self.contents()
         (self.folder / "there").mkdir()
+        (self.folder / "out.arcs.csv").mkdir()
         for out in ("", "folder/", "./", ".", "there", "there/"):
-            said = self.run_tool("osm_to_gr", VILLAGE, out, status=2).stderr
-            self.assertIn("OUT is a prefix of files", said)
+            self.assertIn("OUT is a prefix of files", self.run_tool("osm_to_gr", VILLAGE, out, status=2).stderr)
         self.assertEqual(self.contents(), before)
+        self.assert_refused("osm_to_gr", VILLAGE, "no/out", says="no/out.gr: No such file or directory")
+        self.assert_refused("osm_to_gr", VILLAGE, "out", "--tables", says="out.arcs.csv: is a folder")
+        self.run_tool("osm_to_gr", VILLAGE, "out")
 
     def test_a_full_disk_names_the_file(self):
         self.run_tool("osm_to_gr", VILLAGE, "other")
@@ -338,40 +270,29 @@ class BadInput(NetworkCase):
         told = self.run_tool("nearest", "other", "-", "-o", "/dev/full", given=trips, status=1)
         self.assertEqual(told.stderr, "nearest: /dev/full: No space left on device\n")
 
-    def test_no_folder_for_the_files(self):
-        self.assert_refused("osm_to_gr", VILLAGE, "no/out", says="no/out.gr: No such file or directory")
-
-    def test_a_folder_in_the_place_of_a_file(self):
-        (self.folder / "out.arcs.csv").mkdir()
-        self.assert_refused("osm_to_gr", VILLAGE, "out", "--tables", says="out.arcs.csv: is a folder")
-        self.run_tool("osm_to_gr", VILLAGE, "out")
-
     def test_arguments_that_are_refused(self):
         for words in ([], [VILLAGE], [VILLAGE, "out", "--longest-arc", "0"], [VILLAGE, "out", "--weight", "days"]):
-            with self.subTest(words):
-                self.run_tool("osm_to_gr", *words, status=2)
-                self.assertEqual(self.contents(), {})
-        self.assertEqual([longest_arc("1"), longest_arc("1000000"), share("0"), share("1")], [1, 1_000_000, 0, 1])
+            self.run_tool("osm_to_gr", *words, status=2)
+        self.assertEqual(self.contents(), {})
+        for least, arc in ((0, 1), (1, 1_000_000)):
+            options = options_of({"at_least": least, "longest_arc": arc})
+            self.assertEqual((options.at_least, options.longest_arc, share(str(least)), longest_arc(str(arc))), (least, arc, least, arc))
         for read, texts in ((longest_arc, ("0.99", "1000000.5", "nan", "x")), (share, ("-0.01", "1.01", "nan", "x"))):
             for text in texts:
                 self.assertRaises(argparse.ArgumentTypeError, read, text)
 
 
-def converted(folder, *ways, profile="car"):
+def converted_ways(folder, *ways, profile="car"):
     """What is said of a map of ways from 1 to 2 with these tags, of which each is a primary road, and their arcs."""
-    lines = ["<node id='1' lon='0' lat='0'/><node id='2' lon='0.001' lat='0'/>"]
-    for number, way in enumerate(ways, 1):
-        tags = "".join(f"<tag k='{key}' v='{value}'/>" for key, value in {"highway": "primary", **way}.items())
-        lines.append(f"<way id='{number}'><nd ref='1'/><nd ref='2'/>{tags}</way>")
-    (folder / "map.osm").write_text(MAP.format("".join(lines)), encoding="utf-8")
-    said = run_tool("osm_to_gr", folder / "map.osm", folder / "map", "--profile", profile)[1].splitlines()
-    return said, domethyme.Network(folder / "map").arcs_frame().drop_duplicates("osm")
+    text = osm_map({1: (0, 0), 2: (0.001, 0)}, [((1, 2), {"highway": "primary", **way}) for way in ways])
+    said, arcs = converted(folder, text, "--profile", profile)
+    return said.splitlines(), arcs.drop_duplicates("osm")
 
 
 def test_texts_of_roads(tmp_path):
     """Each column has its own tag, without blanks around; a road without a name is called by its ref."""
     bridge = {"tunnel": "no", "bridge": "viaduct", "toll": "no"}
-    _, arcs = converted(
+    _, arcs = converted_ways(
         tmp_path, {"name": " A  B ", "ref": "B1", "destination": "X;Y", "junction": " j ", **bridge},
         {"ref": "M2", "tunnel": "passage", "bridge": "yes", "toll": "yes", "duration": "5"}, {"name": "\u2003", "ref": "B3", "toll": "hgv"},
     )
@@ -384,15 +305,15 @@ def test_texts_of_roads(tmp_path):
 def test_what_is_said_of_tags(tmp_path):
     """Ten of the values that aren't understood, the most frequent first; and of rules that aren't looked at the ways, once."""
     for count, more in ((10, ""), (11, ", ...")):
-        said, _ = converted(tmp_path, *({"maxspeed": f"s{number}"} for number in range(count)), {"maxspeed": "s0"})
+        said, _ = converted_ways(tmp_path, *({"maxspeed": f"s{number}"} for number in range(count)), {"maxspeed": "s0"})
         shown = ", ".join(["s0 2", *(f"s{number} 1" for number in range(1, 10))])
         assert said[0] == f"osm_to_gr: maxspeeds that weren't understood ({shown}{more}): {count + 1}"
     ways = {"maxspeed:forward": "b", "maxspeed:backward": "a"}, {"maxspeed": "sign", "maxspeed:forward": "9"}
-    said, _ = converted(tmp_path, *ways)
+    said, _ = converted_ways(tmp_path, *ways)
     assert said[0] == "osm_to_gr: maxspeeds that weren't understood (a and b 1, sign 1): 2"
-    said, _ = converted(tmp_path, {"maxheight": "tall"}, profile="lorry")
+    said, _ = converted_ways(tmp_path, {"maxheight": "tall"}, profile="lorry")
     assert said[0] == "osm_to_gr: limits that weren't understood (tall 1): 1"
-    said, _ = converted(
+    said, _ = converted_ways(
         tmp_path, {"access:conditional": "no @ (1-2)", "maxspeed:conditional": "5 @ wet"},
         {"oneway:conditional": "yes @ (1-2)", "access": "destination", "motor_vehicle": "yes"},
         {"bicycle:conditional": "no @ wet", "access": "agricultural; destination"}, *[{"access": "no"}] * 2,
