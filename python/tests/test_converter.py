@@ -1,15 +1,19 @@
 """Tests of the program by which osm_to_gr reads maps: how it is built, interrupted and fails; and of what comes of it."""
+import contextlib
 import os
 import random
 import shutil
 import signal
 import subprocess
 import time
-import unittest
 from unittest import mock
 
 import numpy as np
-from tool_case import IN_TABLES, PYTHON, SECONDS, TAKES_SIGNALS, VILLAGE, ToolCase, read_rows
+import pytest
+from draws import converted
+from tool_case import IN_TABLES, PYTHON, SECONDS, TAKES_SIGNALS, VILLAGE, ToolCase, osm_map
+
+import domethyme
 
 from domethyme.errors import MapError
 from domethyme.maps import conversion, map_arrays, road_network
@@ -97,8 +101,9 @@ class BuildTests(ProgramCase):
 
 class FailureTests(ProgramCase):
     def test_what_the_program_reports(self):
-        """Its own error, a full disk, which names the files, no memory, and a signal."""
+        """Its own error, a full disk, which names the files, no memory, a signal, and where its folder is."""
         for lines, *says in (
+            ('case $2 in ./out.*.arrays | $PWD/out.*.arrays) echo beside OUT >&2 ;; esac\nexit 2', "osm_to_gr: beside OUT\n"),
             ("echo 'way_osm: Permission denied' >&2\nexit 2", "osm_to_gr: way_osm: Permission denied\n"),
             ("echo 'way_osm: No space left on device' >&2\nexit 2", "osm_to_gr: out.gr, out.", ": No space left on device\n"),
             ("exit 3", "osm_to_gr: there isn't enough memory\n"),
@@ -129,150 +134,123 @@ class FailureTests(ProgramCase):
             (self.folder / "pid").unlink()
 
 
-class RoomTests(unittest.TestCase):
-    def test_a_network_that_is_too_large(self):
-        conversion.check_limits(1 << 25, 1 << 27, "map.osm")
-        cases = [((1 << 25) + 1, 0, "33554433 nodes, and there may be 33554432"), (0, (1 << 27) + 1, "134217729 arcs")]
-        for nodes, arcs, says in cases:
-            with self.assertRaisesRegex(MapError, f"map.osm: makes a network of {says}"):
-                conversion.check_limits(nodes, arcs, "map.osm")
+def test_the_program_of_the_package(tmp_path, monkeypatch):
+    """It is taken in Debian's package alone, where it is there."""
+    program, found = tmp_path / "map_arrays", []
+    monkeypatch.setattr(map_arrays, "PACKAGED", str(program))
+    for packages, is_there in ((map_arrays.PACKAGES, True), (str(PYTHON), True), (str(PYTHON), False)):
+        monkeypatch.setattr(map_arrays, "PACKAGES", packages)
+        program.touch() if is_there else program.unlink()
+        found.append(map_arrays.ensure_built(lambda *told: None) == str(program))
+    assert found == [False, True, False]
 
 
-class ArraysTests(ToolCase):
-    """The arrays of drawn maps are those that the tables' reader makes of them."""
+@pytest.mark.parametrize("nodes, arcs, says", [
+    (1 << 25, 1 << 27, None), ((1 << 25) + 1, 0, "33554433 nodes, and there may be 33554432"), (0, (1 << 27) + 1, "134217729 arcs"),
+])
+def test_a_network_that_is_too_large(nodes, arcs, says):
+    with pytest.raises(MapError, match=f"map.osm: makes a network of {says}") if says else contextlib.nullcontext():
+        conversion.check_limits(nodes, arcs, "map.osm")
 
-    def test_drawn_maps(self):
-        for seed in range(8):
-            with self.subTest(seed=seed):
-                self.write("map.osm", drawn_map(seed))
-                arrays = self.arrays()
-                with open(self.folder / "n.nodes.csv", "w") as nodes, open(self.folder / "n.arcs.csv", "w") as arcs:
-                    table_files.write_nodes(nodes, arrays)
-                    table_files.write_arcs(arcs, arrays)
-                self.write("n.gr", "c attribution: said\n")
-                wanted = from_tables.arrays_from_tables(str(self.folder / "n"))
-                for name in IN_TABLES:
-                    np.testing.assert_array_equal(getattr(arrays, name), getattr(wanted, name), name)
-                    self.assertEqual(getattr(arrays, name).dtype, getattr(wanted, name).dtype, name)
-                self.assertGreater(len(arrays.arc_from), 20)
-                self.assertLess(len(arrays.edge_begin) - 1, len(arrays.arc_from))
 
-    def test_parts(self):
-        """What threads make part by part is the same however long the parts are."""
-        for seed in range(3):
-            self.write("map.osm", drawn_map(seed))
-            wanted = self.file()
-            for size in (1, 7):
-                with self.subTest(seed=seed, size=size), mock.patch.object(parallel, "SLICE_ROWS", size):
-                    self.assertEqual(self.file(), wanted)
+def arrays_of(path):
+    options = conversion.Options(longest_arc=120.0, keep_islands=True)
+    with map_arrays.folder_beside(str(path), lambda *told: None) as folder:
+        report = conversion.collections.Counter()
+        network, rows_of = conversion.convert(path, read_profile("car"), options, folder, report)
+        return road_network.to_arrays(network, "time", rows_of, "said", report)
 
-    def file(self):
-        """The bytes of the network's file."""
-        with open(self.folder / "map.net", "wb") as file:
-            net_file.write(file, self.arrays())
-        return (self.folder / "map.net").read_bytes()
 
-    def arrays(self):
-        options = conversion.Options(longest_arc=120.0, keep_islands=True)
-        with map_arrays.folder_beside(str(self.folder / "out"), lambda *told: None) as folder:
-            report = conversion.collections.Counter()
-            network, rows_of = conversion.convert(self.folder / "map.osm", read_profile("car"), options, folder, report)
-            return road_network.to_arrays(network, "time", rows_of, "said", report)
+@pytest.mark.parametrize("seed", range(8))
+def test_drawn_maps(tmp_path, seed):
+    """The arrays of drawn maps are those that the tables' reader makes of them, however long the parts are that threads make."""
+    (tmp_path / "map.osm").write_text(drawn_map(seed))
+    arrays = arrays_of(tmp_path / "map.osm")
+    with open(tmp_path / "n.nodes.csv", "w") as nodes, open(tmp_path / "n.arcs.csv", "w") as arcs:
+        table_files.write_nodes(nodes, arrays)
+        table_files.write_arcs(arcs, arrays)
+    (tmp_path / "n.gr").write_text("c attribution: said\n")
+    wanted = from_tables.arrays_from_tables(str(tmp_path / "n"))
+    for name in IN_TABLES:
+        np.testing.assert_array_equal(getattr(arrays, name), getattr(wanted, name), name)
+        assert getattr(arrays, name).dtype == getattr(wanted, name).dtype, name
+    assert len(arrays.arc_from) > max(20, len(arrays.edge_begin) - 1)
+    files = []
+    for size in (parallel.SLICE_ROWS, 1, 7) if seed < 3 else ():
+        with mock.patch.object(parallel, "SLICE_ROWS", size), open(tmp_path / "map.net", "wb") as file:
+            net_file.write(file, arrays_of(tmp_path / "map.osm"))
+        files.append((tmp_path / "map.net").read_bytes())
+    assert files == files[:1] * len(files)
 
 
 def drawn_map(seed):
     """A map of a few nodes that ways pass often, there and back, with names of all kinds and turn restrictions."""
-    draw = random.Random(seed)
-    lines = ["<osm version='0.6'>"]
-    lines += [f"<node id='{node}' lon='{draw.randrange(9) / 1000}' lat='{draw.randrange(9) / 1000}'/>" for node in range(1, 13)]
-    for way in range(1, 25):
+    draw, ways, relations = random.Random(seed), [], []
+    places = {node: (draw.randrange(9) / 1000, draw.randrange(9) / 1000) for node in range(1, 13)}
+    for _ in range(24):
         nodes = [draw.randrange(1, 14) for _ in range(draw.randrange(2, 6))]
         nodes += nodes[::-1] * (draw.random() < 0.2)
         tags = {"highway": draw.choice(("residential", "primary")), "name": draw.choice(("A", " A\u2003 B\u00a0", "", "C"))}
         tags.update({"ref": "1\t2"} if draw.random() < 0.5 else {}, **({"oneway": "yes"} if draw.random() < 0.2 else {}))
-        lines.append(f"<way id='{way}'>" + "".join(f"<nd ref='{node}'/>" for node in nodes))
-        lines.append("".join(f"<tag k='{key}' v='{value}'/>" for key, value in tags.items()) + "</way>")
+        ways.append((nodes, tags))
     for number in range(1, 30):
         start, end = draw.randrange(1, 25), draw.randrange(1, 25)
         members = f"<member type='way' ref='{start}' role='from'/><member type='way' ref='{end}' role='to'/>"
         via = f"<member type='node' ref='{draw.randrange(1, 13)}' role='via'/>"
         value = draw.choice(("no_left_turn", "only_right_turn"))
         tags = f"<tag k='type' v='restriction'/><tag k='restriction' v='{value}'/>"
-        lines.append(f"<relation id='{number}'>{members}{via}{tags}</relation>")
-    return "\n".join([*lines, "</osm>"])
+        relations.append(f"<relation id='{number}'>{members}{via}{tags}</relation>")
+    return osm_map(places, ways, *relations)
 
 
-class ThreadTests(unittest.TestCase):
-    """Parts of arrays by threads, of four numbers each."""
-
-    def setUp(self):
-        self.enterContext(mock.patch.object(parallel, "SLICE_ROWS", 4))
-        draw = random.Random(1)
-        self.rows = [[draw.randrange(20) for _ in range(count)] for count in (0, 1, 4, 5, 100)]
-
-    def test_parts_are_in_order(self):
-        for row in self.rows:
-            found = parallel.map_slices(lambda part: row[part], len(row))
-            self.assertEqual([value for part in found for value in part], row)
-            self.assertTrue(len(found) == max(1, -(-len(row) // 4)) and all(len(part) <= 4 for part in found))
-
-    def test_the_first_fault_is_raised(self):
-        with self.assertRaisesRegex(ValueError, "^8$"):
-            parallel.map_slices(lambda part: int(f"{part.start}" if part.start < 8 else self.fail_at(part)), 100)
-
-    def fail_at(self, part):
-        raise ValueError(part.start)
-
-    def test_sort(self):
-        for row in self.rows:
-            values = np.array(row, np.uint64)
-            parallel.parallel_sort(values)
-            self.assertEqual(values.tolist(), sorted(row))
-
-    def test_order_of(self):
-        for row in self.rows:
-            wanted = sorted(range(len(row)), key=lambda place: row[place])
-            self.assertEqual(parallel.parallel_argsort(np.array(row, np.int32)).tolist(), wanted)
-
-    def test_firsts(self):
-        self.assertEqual(parallel.differs_from_previous(np.array([3, 3, 1, 3])).tolist(), [True, False, True, True])
-        self.assertEqual(parallel.differs_from_previous(np.array([])).tolist(), [])
+@pytest.mark.parametrize("count", [0, 1, 4, 5, 100])
+def test_parts_by_threads(monkeypatch, count):
+    """Of arrays, of four numbers each."""
+    monkeypatch.setattr(parallel, "SLICE_ROWS", 4)
+    draw = random.Random(count)
+    row = [draw.randrange(20) for _ in range(count)]
+    found = parallel.map_slices(lambda part: row[part], count)
+    assert [value for part in found for value in part] == row
+    assert len(found) == max(1, -(-count // 4)) and all(len(part) <= 4 for part in found)
+    values = np.array(row, np.uint64)
+    parallel.parallel_sort(values)
+    assert values.tolist() == sorted(row)
+    assert parallel.parallel_argsort(np.array(row, np.int32)).tolist() == sorted(range(count), key=row.__getitem__)
+    assert parallel.differs_from_previous(np.array(row)).tolist() == [at == 0 or row[at] != row[at - 1] for at in range(count)]
 
 
-class RoundingTests(unittest.TestCase):
-    def test_as_python_rounds(self):
-        draw = random.Random(1)
-        values = [number / 16 for number in range(200)] + [number / 2000 for number in range(2000)]
-        values += [draw.uniform(0, 10.0 ** draw.randrange(7)) for _ in range(2000)]
-        for digits in (2, 3):
-            found = road_network.rounded_exactly(np.array(values), digits).tolist()
-            self.assertEqual(found, [round(value, digits) for value in values])
+def test_the_first_fault_of_threads_is_raised(monkeypatch):
+    def fail(part):
+        if part.start >= 8:
+            raise ValueError(part.start)
 
-    def test_weights_and_seconds(self):
-        """A weight is at least 1 without its penalty, and half of one is rounded to an even number."""
-        amounts, penalty = np.array([0.2, 0.4, 1.5, 2.5, 1234.4]), np.array([0, 3, 0, 250, 1])
-        self.assertEqual(figures.whole_weights(amounts, 10 * penalty).tolist(), [1, 31, 2, 2502, 1244])
-        self.assertEqual(figures.seconds_of(amounts, penalty).tolist(), [0.0, 0.03, 0.002, 2.502, 1.244])
+    monkeypatch.setattr(parallel, "SLICE_ROWS", 4)
+    with pytest.raises(ValueError, match="^8$"):
+        parallel.map_slices(fail, 100)
 
 
-class PlaceTests(ToolCase):
-    def arcs(self, places, *words):
-        """The arcs of a way through these places."""
-        nodes = "".join(f"<node id='{node}' lon='{lon}' lat='{lat}'/>" for node, (lon, lat) in enumerate(places, 1))
-        way = "".join(f"<nd ref='{node}'/>" for node in range(1, len(places) + 1)) + "<tag k='highway' v='road'/>"
-        self.write("map.osm", f"<osm version='0.6'>{nodes}<way id='1'>{way}</way></osm>")
-        self.run_tool("osm_to_gr", "map.osm", "map", "--tables", "--weight", "length", *words)
-        return read_rows(self.folder / "map.arcs.csv")
+def test_rounding():
+    """As Python rounds. A weight is at least 1 without its penalty, and half of one is rounded to an even number."""
+    draw = random.Random(1)
+    values = [number / 16 for number in range(200)] + [number / 2000 for number in range(2000)]
+    values += [draw.uniform(0, 10.0 ** draw.randrange(7)) for _ in range(2000)]
+    for digits in (2, 3):
+        assert road_network.rounded_exactly(np.array(values), digits).tolist() == [round(value, digits) for value in values]
+    amounts, penalty = np.array([0.2, 0.4, 1.5, 2.5, 1234.4]), np.array([0, 3, 0, 250, 1])
+    assert figures.whole_weights(amounts, 10 * penalty).tolist() == [1, 31, 2, 2502, 1244]
+    assert figures.seconds_of(amounts, penalty).tolist() == [0.0, 0.03, 0.002, 2.502, 1.244]
 
-    def test_a_road_across_the_180th_meridian(self):
-        arcs = self.arcs([(179.998, 0), (-179.998, 0)])
-        self.assertEqual([arc.metres for arc in arcs], [222.39] * 4)
-        self.assertEqual({abs(node.lon) for node in read_rows(self.folder / "map.nodes.csv")}, {179.998, 180})
-        arcs = self.arcs([(-179.999, 0), (179.996, 0)], "--longest-arc", "120")
-        self.assertEqual(len(arcs), 10)
-        wanted = [-180.0, -179.999, 179.996, 179.997, 179.998, 179.999]
-        self.assertEqual(sorted(node.lon for node in read_rows(self.folder / "map.nodes.csv")), wanted)
 
-    def test_a_cut_beside_zero_has_no_sign(self):
-        self.arcs([(-0.001, 0), (0.001, -0.0000001)], "--longest-arc", "200")
-        self.assertNotIn("-0.0000000", (self.folder / "map.nodes.csv").read_text())
+@pytest.mark.parametrize("ends, longest, metres, lons", [
+    ([(179.998, 0), (-179.998, 0)], 250, [222.39] * 4, [-180, -179.998, 179.998]),
+    ([(-179.999, 0), (179.996, 0)], 120, [111.2] * 10, [-180, -179.999, 179.996, 179.997, 179.998, 179.999]),
+    ([(-0.001, 0), (0.001, "-0.0000001")], 200, [111.2] * 4, [-0.001, 0, 0.001]),
+])
+def test_where_a_road_is_cut(tmp_path, ends, longest, metres, lons):
+    """Across the 180th meridian; and zero has no sign."""
+    text = osm_map(dict(enumerate(ends, 1)), [((1, 2), {"highway": "road"})])
+    _, arcs = converted(tmp_path, text, "--weight", "length", "--longest-arc", longest, "--tables")
+    nodes = domethyme.Network(tmp_path / "map").nodes_frame()
+    found = [-180 if lon == 180 else lon for lon in nodes["lon"].tolist()]  # (one meridian)
+    assert (arcs["metres"].tolist(), sorted(found)) == (metres, lons)
+    assert "-0.0000000" not in (tmp_path / "map.nodes.csv").read_text()

@@ -314,10 +314,9 @@ def test_what_is_said_of_tags(tmp_path):
     said, _ = converted_ways(tmp_path, {"maxheight": "tall"}, profile="lorry")
     assert said[0] == "osm_to_gr: limits that weren't understood (tall 1): 1"
     said, _ = converted_ways(
-        tmp_path, {"access:conditional": "no @ (1-2)", "maxspeed:conditional": "5 @ wet"},
-        {"oneway:conditional": "yes @ (1-2)", "access": "destination", "motor_vehicle": "yes"},
-        {"bicycle:conditional": "no @ wet", "access": "agricultural; destination"}, *[{"access": "no"}] * 2,
-        *[{"maxspeed:forward:conditional": "5 @ wet"}] * 2,
+        tmp_path, {"access:conditional": "no @ (1-2)"}, {"oneway:conditional": "yes @ (1-2)", "access": "destination", "motor_vehicle": "yes"},
+        {"bicycle:conditional": "no @ wet", "access": "agricultural; destination"}, *[{"access": "no", "access:conditional": "yes @ (1-2)"}] * 2,
+        *[{"maxspeed:forward:conditional": "5 @ wet", "maxspeed:conditional": "9 @ wet"}] * 2,
     )
     assert set(said[:3]) == {
         "osm_to_gr: ways with rules for some times or conditions, which aren't looked at: 4",

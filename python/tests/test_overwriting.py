@@ -77,6 +77,7 @@ class OverwritingTests(ToolCase):
         super().setUp()
         self.write("firm.nodes.csv", NODES)
         self.write("firm.arcs.csv", ARCS)
+        self.write("trips.csv", TRIPS)
 
     def assert_kept(self, *words, says, status=2, given=None):
         """Wants a call refused, with nothing written."""
@@ -86,7 +87,6 @@ class OverwritingTests(ToolCase):
 
     def test_standard_input(self):
         self.run_tool("to_network", "firm.nodes.csv", "firm.arcs.csv", "net")
-        self.write("trips.csv", TRIPS)
         before = self.contents()
         with open(self.folder / "trips.csv", encoding="utf-8") as trips:
             words = [str(TOOLS / "nearest"), "net", "-", "-o", "trips.csv"]
@@ -108,18 +108,16 @@ class OverwritingTests(ToolCase):
 
     def test_tables_of_a_user(self):
         """They are neither overwritten nor removed, and are never read in place of the network's file."""
-        before = {name: (self.folder / name).read_bytes() for name in ("firm.nodes.csv", "firm.arcs.csv")}
+        before = self.contents()
         self.run_tool("osm_to_gr", VILLAGE, "firm")
-        self.assertEqual({name: (self.folder / name).read_bytes() for name in before}, before)
+        self.assertEqual({path: text for path, text in self.contents().items() if path.suffix == ".csv"}, before)
         self.assertGreater(len(from_tables.load_network(str(self.folder / "firm")).node_osm), 10)
         self.assert_kept("osm_to_gr", VILLAGE, "firm", "--tables", status=1, says="firm.nodes.csv: is there, and no tool has written it")
         self.write("other.csv", NODES)
         self.assert_kept("to_network", "other.csv", "firm.arcs.csv", "firm", "--tables", says="firm.arcs.csv and firm.arcs.csv are one")
-        self.write("others.csv", ARCS)
-        words = ("to_network", "other.csv", "others.csv", "firm", "--tables")
+        words = "to_network", "other.csv", self.write("others.csv", ARCS), "firm", "--tables"
         self.assert_kept(*words, status=1, says="firm.nodes.csv: is there, and no tool has written it")
-        frame = domethyme.Network(self.folder / "firm").arcs_frame()
-        self.assertIn("weight", frame.columns)
+        self.assertIn("weight", domethyme.Network(self.folder / "firm").arcs_frame().columns)
 
     def test_tables_that_a_tool_has_written(self):
         self.run_tool("osm_to_gr", VILLAGE, "v", "--tables")
@@ -140,25 +138,17 @@ class OverwritingTests(ToolCase):
         self.assert_kept("to_network", "firm.nodes.csv", "firm.arcs.csv", "v", "--tables", status=1, says=says)
 
     def test_own_tables_that_were_edited(self):
-        """Beside the network that was made of them: a sentence, and no other table is read."""
-        self.run_tool("to_network", "firm.nodes.csv", "firm.arcs.csv", "firm")
-        self.write("trips.csv", TRIPS)
-        self.assertIn("q 1 2", self.run_tool("nearest", "firm", "trips.csv").stdout)
-        self.assertEqual(domethyme.Network(self.folder / "firm").arcs_frame()["from"].tolist(), [0, 1])
-        self.write("firm.arcs.csv", ARCS.replace("50", "60"))
-        says = "firm.arcs.csv: has changed since firm.net was made of it: run `to_network` again"
-        self.assert_refused("nearest", "firm", "trips.csv", says=says)
-        with self.assertRaisesRegex(domethyme.NetworkError, "firm.arcs.csv: has changed since"):
-            domethyme.Network(self.folder / "firm").arcs_frame()
-        self.run_tool("to_network", "firm.nodes.csv", "firm.arcs.csv", "firm")
-        self.assertIn("q 1 2", self.run_tool("nearest", "firm", "trips.csv").stdout)
-
-    def test_one_table_of_two(self):
-        """A table of arcs beside the network that was made of it and of another table of nodes."""
+        """Beside the network that was made of both of them, or of one: a sentence, and no other table is read."""
         self.write("others.csv", NODES)
-        self.write("edit.arcs.csv", ARCS)
-        self.run_tool("to_network", "others.csv", "edit.arcs.csv", "edit")
-        self.write("trips.csv", TRIPS)
-        self.assertIn("q 1 2", self.run_tool("nearest", "edit", "trips.csv").stdout)
-        self.write("edit.arcs.csv", ARCS.replace("50", "70"))
-        self.assert_refused("nearest", "edit", "trips.csv", says="edit.arcs.csv: has changed since edit.net was made of it")
+        for nodes in ("firm.nodes.csv", "others.csv"):
+            net = "firm" if nodes == "firm.nodes.csv" else "edit"
+            arcs = self.write(f"{net}.arcs.csv", ARCS).name
+            self.run_tool("to_network", nodes, arcs, net)
+            self.assertIn("q 1 2", self.run_tool("nearest", net, "trips.csv").stdout)
+            self.write(arcs, ARCS.replace("50", "60"))
+            self.assert_refused("nearest", net, "trips.csv", says=f"{arcs}: has changed since {net}.net was made of it: run `to_network` again")
+            with self.assertRaisesRegex(domethyme.NetworkError, f"{arcs}: has changed since"):
+                domethyme.Network(self.folder / net).arcs_frame()
+            self.run_tool("to_network", nodes, arcs, net)
+            self.assertIn("q 1 2", self.run_tool("nearest", net, "trips.csv").stdout)
+        self.assertEqual(domethyme.Network(self.folder / "firm").arcs_frame()["from"].tolist(), [0, 1])

@@ -10,8 +10,6 @@ from tool_case import TOOLS, ToolCase
 
 from domethyme_tools import fetch_extract
 
-NO_PACKAGE = "#!/bin/sh\nexit 1\n"
-
 
 class PackagesCase(ToolCase):
     """Tests with a folder of programs that come before those of the machine, and are told in PATH."""
@@ -34,10 +32,6 @@ class CheckPackages(PackagesCase):
         self.write("packages", "# a comment\nfirst-package # and another\n\nsecond-package\n")
         self.put_program("sleep", "#!/bin/sh\n")
 
-    def calls(self):
-        """How apt-get was called."""
-        return (self.folder / "calls").read_text(encoding="ascii").splitlines()
-
     def test_all_are_there(self):
         self.put_program("dpkg-query", "#!/bin/sh\necho -n installed\n")
         self.put_program("apt-get", "#!/bin/sh\necho called >calls\n")
@@ -45,47 +39,31 @@ class CheckPackages(PackagesCase):
         self.assertEqual((ended.stdout, ended.stderr), ("", ""))
         self.assertFalse((self.folder / "calls").exists())
 
-    def second_is_missing(self, apt_get):
-        """The machine of a root who lacks the second package, with an apt-get; one that writes `status` has it be there."""
+    def test_the_second_is_missing(self):
+        """For root: it is installed, also without lists of another source, or by a mirror that is busy at first; there is no network; and an
+        installation of which apt-get says that all went well."""
+        there, says = "echo -n installed >status", "check_packages: Debian packages of the map tools are missing"
+        remedy = ": as root, apt-get install second-package\n"
         self.put_program("id", "#!/bin/sh\necho 0\n")
         self.put_program("dpkg-query", '#!/bin/sh\ncase "$4" in first-*) echo -n installed ;; *) cat status ;; esac\n')
-        self.put_program("apt-get", f'#!/bin/sh\necho "$@" >>calls\n{apt_get}\n')
-        self.write("status", "not-installed")
-
-    def test_root_installs_what_is_missing(self):
-        self.second_is_missing("echo -n installed >status")
-        ended = self.run_tool("check_packages", "packages", environment=self.path)
-        self.assertEqual((ended.stdout, ended.stderr), ("installs Debian's packages second-package\n", ""))
-        self.assertTrue(self.calls()[0].endswith(" update"))
-        self.assertTrue(self.calls()[1].endswith(" install -y --no-install-recommends second-package"))
-        self.assertEqual(len(self.calls()), 2)
-
-    def test_what_fails_at_first(self):
-        """Lists of another source that can't be had, and a mirror that is busy."""
-        there = "echo -n installed >status"
-        for apt_get, calls in ((f'case "$*" in *update) echo "E: no lists" >&2; exit 100 ;; *) {there} ;; esac', 2),
-                               (f"[ $(wc -l <calls) = 6 ] || exit 100\n{there}", 6)):
-            self.second_is_missing(apt_get)
-            self.run_tool("check_packages", "packages", environment=self.path)
-            self.assertEqual(len(self.calls()), calls)
-            (self.folder / "calls").unlink()
-
-    def test_root_can_not_install(self):
-        self.second_is_missing("echo 'E: no network' >&2\nexit 100")
-        ended = self.run_tool("check_packages", "packages", environment=self.path, status=1)
-        says = "check_packages: Debian packages of the map tools are missing (no network): "
-        self.assertEqual(ended.stderr, f"{says}as root, apt-get install second-package\n")
-        self.assertEqual(len(self.calls()), 6)
-
-    def test_an_installation_that_says_that_all_went_well(self):
-        self.second_is_missing("")
-        ended = self.run_tool("check_packages", "packages", environment=self.path, status=1)
-        self.assertEqual(ended.stderr.count("\n"), 1)
-        self.assertTrue(ended.stderr.endswith("are missing: as root, apt-get install second-package\n"))
+        for apt_get, count, said in (
+            (there, 2, ""), (f'case "$*" in *update) echo "E: no lists" >&2; exit 100 ;; *) {there} ;; esac', 2, ""),
+            (f"[ $(wc -l <calls) = 6 ] || exit 100\n{there}", 6, ""),
+            ("echo 'E: no network' >&2\nexit 100", 6, f"{says} (no network){remedy}"), ("", 2, f"{says}{remedy}"),
+        ):
+            self.put_program("apt-get", f'#!/bin/sh\necho "$@" >>calls\n{apt_get}\n')
+            self.write("status", "not-installed")
+            self.write("calls", "")
+            ended = self.run_tool("check_packages", "packages", environment=self.path, status=1 if said else 0)
+            self.assertEqual((ended.stdout, ended.stderr), ("installs Debian's packages second-package\n", said))
+            calls = (self.folder / "calls").read_text(encoding="ascii").splitlines()
+            self.assertEqual(len(calls), count)
+            self.assertTrue(calls[0].endswith(" update"))
+            self.assertTrue(calls[1].endswith(" install -y --no-install-recommends second-package"))
 
     def test_others_are_told_what_to_install(self):
         self.put_program("id", "#!/bin/sh\necho 1000\n")
-        self.put_program("dpkg-query", NO_PACKAGE)
+        self.put_program("dpkg-query", "#!/bin/sh\nexit 1\n")
         self.put_program("apt-get", "#!/bin/sh\necho called >calls\n")
         says = "are missing: as root, apt-get install first-package second-package\n"
         self.assert_refused("check_packages", "packages", says=says, environment=self.path)
@@ -102,9 +80,6 @@ class CheckPackages(PackagesCase):
 
 
 class FetchExtract(PackagesCase):
-    def refused(self, says):
-        self.assert_refused("fetch_extract", ".", says=says, environment=self.path)
-
     def test_what_apt_get_says(self):
         """A wrong file of the right size is fetched anew, and stays where that fails."""
         name = "liechtenstein-2013-08-03.osm.pbf"
@@ -117,7 +92,7 @@ class FetchExtract(PackagesCase):
              "can't be had: Debian's source package has another file of that name"),
         ):
             self.put_program("apt-get", f"#!/bin/sh\n{lines}\n")
-            self.refused(says)
+            self.assert_refused("fetch_extract", ".", says=says, environment=self.path)
 
     def test_what_is_fetched(self):
         """The file of that name in any folder of the package, by lists and a cache of its own, which are removed; and once only."""
@@ -140,8 +115,8 @@ mkdir -p a/b/{name} c/b\necho whole >c/b/{name}\necho no >c/b/no-{name}\ntar -cf
     def test_no_apt_get(self):
         for name in ("dirname", "readlink"):  # which the command of the tool calls
             (self.programs / name).symlink_to(shutil.which(name))
-        self.path = {"PATH": str(self.programs)}
-        self.refused("can't be had: there is no apt-get on this machine")
+        says = "can't be had: there is no apt-get on this machine"
+        self.assert_refused("fetch_extract", ".", says=says, environment={"PATH": str(self.programs)})
 
     def test_arguments_that_are_refused(self):
         self.run_tool("fetch_extract", ".", "..", status=2)

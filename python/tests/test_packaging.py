@@ -16,6 +16,8 @@ LIBRARY = "/usr/lib/x86_64-linux-gnu/libutil.so.1"
 PRINTS = '#!/bin/sh\nprintf "%s|" "${LD_PRELOAD-${GLIBC_TUNABLES-nothing}}" "$@"\nexit 7\n'
 TUNED = "glibc.malloc.mmap_threshold=1048576"
 COMPACT = f"{TUNED}:glibc.malloc.arena_max=1"
+SAYS = "routecli: ROUTECLI_ALLOCATOR: "
+OF_C = f"{SAYS}the allocator of the C library"
 
 
 class CommandTests(ToolCase):
@@ -32,63 +34,44 @@ class CommandTests(ToolCase):
         self.write("command", text).chmod(0o755)
         self.write("program", PRINTS).chmod(0o755)
 
-    def installed(self, *names):
-        for name in names:
-            shutil.copy(LIBRARY, self.libraries / name)
-
     def ran(self, *words, status=7, **environment):
         """What the command prints on both streams."""
-        ended = self.run_program(
-            ["/usr/bin/env", "-u", "LD_PRELOAD", "-u", "GLIBC_TUNABLES", "-u", "ROUTECLI_ALLOCATOR",
-             *(f"{name}={value}" for name, value in environment.items()), self.folder / "command", *words],
-            status,
-        )
+        unset = [word for name in ("LD_PRELOAD", "GLIBC_TUNABLES", "ROUTECLI_ALLOCATOR") for word in ("-u", name)]
+        settings = [f"{name}={value}" for name, value in environment.items()]
+        ended = self.run_program(["/usr/bin/env", *unset, *settings, self.folder / "command", *words], status)
         return ended.stdout, ended.stderr
 
-    def test_arguments_and_status_are_kept(self):
-        self.installed(MIMALLOC)
-        self.assertEqual(self.ran("route", "a b", "", "*"), ("nothing|route|a b||*|", ""))
-        self.assertEqual(self.ran(), ("nothing|", ""))
-        self.assertEqual(self.ran("prepare", "a b", ""), (f"{self.libraries / MIMALLOC}|prepare|a b||", ""))
+    def test_where_none_is_installed(self):
+        """A library that isn't there is asked for in vain, and so is a word that is none of the choices."""
+        prepares = [({}, 7, f"{TUNED}|prepare|", ""), ({"ROUTECLI_ALLOCATOR": "auto"}, 7, f"{TUNED}|prepare|", f"{OF_C}, {TUNED}\n")]
+        for word, library in (("jemalloc", JEMALLOC), ("mimalloc", MIMALLOC)):
+            prepares.append(({"ROUTECLI_ALLOCATOR": word}, 2, "", f"{SAYS}{self.libraries / library} isn't installed\n"))
+        wrong = "'tcmalloc' isn't one of auto, mimalloc, jemalloc, tuned, compact and none\n"
+        for environment, status, *wanted in (*prepares, ({"ROUTECLI_ALLOCATOR": "tcmalloc"}, 2, "", SAYS + wrong)):
+            self.assertEqual([*self.ran("prepare", status=status, **environment)], wanted)
 
-    def test_only_prepare_gets_an_allocator(self):
-        self.installed(JEMALLOC, MIMALLOC)
+    def test_where_both_are_installed(self):
+        """Only prepare gets one; a choice is said where it is asked for; arguments and the status are kept, and what is set already."""
+        for name in (JEMALLOC, MIMALLOC):
+            shutil.copy(LIBRARY, self.libraries / name)
+        path = {name: self.libraries / name for name in (JEMALLOC, MIMALLOC)}
         for command in ("route", "serve", "answer", "--version"):
             self.assertEqual(self.ran(command, ROUTECLI_ALLOCATOR="jemalloc"), (f"nothing|{command}|", ""))
-
-    def test_each_choice_is_said_where_it_is_asked_for(self):
-        self.installed(JEMALLOC, MIMALLOC)
-        for word, library in (("auto", MIMALLOC), ("mimalloc", MIMALLOC), ("jemalloc", JEMALLOC)):
-            path = self.libraries / library
-            said = f"routecli: ROUTECLI_ALLOCATOR: {path}\n"
-            self.assertEqual(self.ran("prepare", ROUTECLI_ALLOCATOR=word), (f"{path}|prepare|", said))
-        said = "routecli: ROUTECLI_ALLOCATOR: the allocator of the C library"
-        self.assertEqual(self.ran("prepare", ROUTECLI_ALLOCATOR="none"), ("nothing|prepare|", f"{said}\n"))
-        for word, tunables in (("tuned", TUNED), ("compact", COMPACT)):
-            self.assertEqual(self.ran("prepare", ROUTECLI_ALLOCATOR=word), (f"{tunables}|prepare|", f"{said}, {tunables}\n"))
-
-    def test_none_is_installed(self):
-        self.assertEqual(self.ran("prepare"), (f"{TUNED}|prepare|", ""))
-        said = f"routecli: ROUTECLI_ALLOCATOR: the allocator of the C library, {TUNED}\n"
-        self.assertEqual(self.ran("prepare", ROUTECLI_ALLOCATOR="auto"), (f"{TUNED}|prepare|", said))
-        for word, library in (("jemalloc", JEMALLOC), ("mimalloc", MIMALLOC)):
-            said = f"routecli: ROUTECLI_ALLOCATOR: {self.libraries / library} isn't installed\n"
-            self.assertEqual(self.ran("prepare", status=2, ROUTECLI_ALLOCATOR=word), ("", said))
-
-    def test_other_words_are_refused(self):
-        said = "routecli: ROUTECLI_ALLOCATOR: 'tcmalloc' isn't one of auto, mimalloc, jemalloc, tuned, compact and none\n"
-        self.assertEqual(self.ran("prepare", status=2, ROUTECLI_ALLOCATOR="tcmalloc"), ("", said))
-
-    def test_what_is_loaded_already_stays(self):
+        self.assertEqual(self.ran("route", "a b", "", "*"), ("nothing|route|a b||*|", ""))
+        self.assertEqual(self.ran(), ("nothing|", ""))
+        self.assertEqual(self.ran("prepare", "a b", ""), (f"{path[MIMALLOC]}|prepare|a b||", ""))
+        for word, preloaded, said in [
+            *((word, path[name], f"{SAYS}{path[name]}\n") for word, name in (("auto", MIMALLOC), ("mimalloc", MIMALLOC), ("jemalloc", JEMALLOC))),
+            ("none", "nothing", f"{OF_C}\n"), ("tuned", TUNED, f"{OF_C}, {TUNED}\n"), ("compact", COMPACT, f"{OF_C}, {COMPACT}\n"),
+        ]:
+            self.assertEqual(self.ran("prepare", ROUTECLI_ALLOCATOR=word), (f"{preloaded}|prepare|", said))
         # (the loader warns on standard error, since there is no such library, and goes on)
-        self.installed(MIMALLOC)
         self.assertEqual(self.ran("prepare", LD_PRELOAD="/none.so")[0], "/none.so|prepare|")
         self.assertIn("stays as it is", self.ran("prepare", LD_PRELOAD="/none.so", ROUTECLI_ALLOCATOR="auto")[1])
         own = "glibc.malloc.arena_max=2"
-        said = "routecli: ROUTECLI_ALLOCATOR: GLIBC_TUNABLES is set, and stays as it is\n"
         for word in ("auto", "compact"):
             found = self.ran("prepare", GLIBC_TUNABLES=own, ROUTECLI_ALLOCATOR=word)
-            self.assertEqual(found, (f"{own}|prepare|", said))
+            self.assertEqual(found, (f"{own}|prepare|", f"{SAYS}GLIBC_TUNABLES is set, and stays as it is\n"))
 
 
 class CompletionTests(ToolCase):
@@ -106,11 +89,9 @@ class CompletionTests(ToolCase):
         return self.run_program(["/bin/bash", "-c", script, "bash", file, *words]).stdout.split()
 
     def test_options_and_values(self):
-        self.assertEqual(self.completed("domethyme-nearest", "--ra"), ["--radius"])
-        self.assertEqual(self.completed("domethyme-serve", "net.rch", "--log"), ["--log-places"])
-        self.assertEqual(self.completed("domethyme-to-geojson", "--format", "l"), ["lines"])
-        self.assertEqual(self.completed("domethyme-osm-to-gr", "--weight", ""), ["length", "time"])
-        self.assertEqual(self.completed("domethyme-route-many", "net"), [])
+        for words, *wanted in (("nearest --ra", "--radius"), ("serve net.rch --log", "--log-places"), ("to-geojson --format l", "lines"),
+                               ("osm-to-gr --weight ", "length", "time"), ("route-many net",)):
+            self.assertEqual(self.completed(*f"domethyme-{words}".split(" ")), wanted)
         self.assertIn("-h", self.completed("domethyme-fetch-extract", "-"))
 
     def test_names_in_the_files(self):

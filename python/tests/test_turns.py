@@ -47,7 +47,7 @@ def test_no_turn(tmp_path, turns, copies):
     ({"restriction": "no_entry"}, (FROM, VIA, TO, ("w", 4, "from"), ("n", 5, "from"), ("r", 6, "to")),
      [(1, 2, 3, False), (4, 2, 3, False)]),
     ({"restriction": "stop"}, (FROM, VIA, TO), "of another kind"),
-    ({"restriction:conditional": "no_u_turn @ (1-2)"}, (FROM, VIA, TO), "at times only"),
+    *(({f"{key}:conditional": "no_u_turn @ (1-2)"}, (FROM, VIA, TO), "at times only") for key in ("restriction", "restriction:motorcar")),
     *(({"restriction": "no_u_turn"}, members, "not by one node") for members in (
         (FROM, ("w", 2, "via"), TO), (FROM, TO), (FROM, VIA, TO, ("n", 4, "via")))),
     ({"type": "route"}, (), []),
