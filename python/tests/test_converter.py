@@ -145,6 +145,16 @@ def test_the_program_of_the_package(tmp_path, monkeypatch):
     assert found == [False, True, False]
 
 
+def test_progress(tmp_path, monkeypatch):
+    """The bytes of the map that are done, and all."""
+    (tmp_path / "program").write_text("#!/bin/sh\necho 3\necho 5\n")
+    (tmp_path / "program").chmod(0o755)
+    monkeypatch.setattr(map_arrays, "ensure_built", lambda report: str(tmp_path / "program"))
+    told, size = [], VILLAGE.stat().st_size
+    map_arrays.Folder(str(tmp_path), lambda *now: told.append(now)).read_map("ways", VILLAGE, [])
+    assert told == [("ways", 3, size), ("ways", 5, size)]
+
+
 @pytest.mark.parametrize("nodes, arcs, says", [
     (1 << 25, 1 << 27, None), ((1 << 25) + 1, 0, "33554433 nodes, and there may be 33554432"), (0, (1 << 27) + 1, "134217729 arcs"),
 ])

@@ -302,6 +302,13 @@ def test_texts_of_roads(tmp_path):
     assert arcs["seconds"].tolist() == [5.719] * 3  # (a duration is a ferry's alone)
 
 
+def test_weights_raised(tmp_path):
+    """Of roads of 1.1 cm, 0.31 ms at 130 km/h and 0.8 ms at 50: those that would be 0."""
+    ways = [((1, 2), {"highway": "primary", "maxspeed": maxspeed}) for maxspeed in ("none", "50")]
+    said, arcs = converted(tmp_path, osm_map({1: (0, 0), 2: (0, "0.0000001")}, ways))
+    assert said.startswith("osm_to_gr: weights raised to 1: 2\n") and arcs["weight"].tolist() == [1] * 4
+
+
 def test_what_is_said_of_tags(tmp_path):
     """Ten of the values that aren't understood, the most frequent first; and of rules that aren't looked at the ways, once."""
     for count, more in ((10, ""), (11, ", ...")):

@@ -179,7 +179,8 @@ class Tables(SharedCase):
         self.assert_table_fault(", row 1: has no column b; its columns are a, c", b"a,c\n")
         told = ", row 1: has no columns a, b; its columns are a;b: fields have to be separated by commas"
         self.assert_table_fault(told, b"a;b\n")
-        self.assert_table_fault(", row 1: has no column b; its columns are a,  b: there is a blank beside b", b"a, b\n")
+        for name in (" b", "b "):
+            self.assert_table_fault(f", row 1: has no column b; its columns are a, {name}: there is a blank beside b", f"a,{name}\n".encode())
         self.assert_table_fault(", row 1: has two columns a", b"a,b,a\n")
         self.assert_table_fault(", row 3: has 1 fields in place of 2", b"a,b\n1,2\n3\n")
         self.assert_table_fault(", row 2: has 3 fields in place of 2", b"a,b\n1,2,3\n")
@@ -205,7 +206,9 @@ class Tables(SharedCase):
 
     def test_numbers(self):
         self.assertEqual(csv_tables.parse_int("-3", "n", "f", 1, -5, 5), -3)
-        self.assertEqual(csv_tables.parse_int(b"007", "n", "f", 1), 7)
+        self.assertEqual(csv_tables.parse_int(b"+007", "n", "f", 1), 7)
+        shown = [csv_tables.escape_formula(text) for text in ("-1.5e-7", "+.5", "-5.", "-")]
+        self.assertEqual(shown, ["-1.5e-7", "+.5", "'-5.", "'-"])
         self.assertEqual(csv_tables.parse_float("1.5e1", "n", "f", 1), 15.0)
         for text in ("", "1_0", "1.0", "٣", "x" * 40, "x" * 41, "9" * 5000):
             shown = repr(text if len(text) <= 40 else text[:40] + "..")
