@@ -5,6 +5,7 @@ import pathlib
 import runpy
 import sys
 import tempfile
+from collections.abc import Iterator
 from typing import Any
 from unittest import mock
 
@@ -15,16 +16,16 @@ from hypothesis import strategies as st
 from test_profiles import BARRIERS, tags_of, ways_of
 from tool_case import MANUAL, VILLAGE
 
-from domethyme.errors import DomethymeError, MapError
+from domethyme.errors import FileError
 
-COMPARE, COMPARE_TURNS = (runpy.run_path(str(MANUAL / name))["main"] for name in ("compare_converters", "compare_turns"))
+SCRIPTS = {name: runpy.run_path(str(MANUAL / name))["main"] for name in ("compare_converters", "compare_turns")}
 FERRIES = ["route=ferry", "route=ferry duration=3", "route=ferry duration=7 oneway=yes", "route=ferry motor_vehicle=no", "route=bus"]
 
 
 @st.composite
 def maps(draw: Any, is_dense: bool = False) -> str:
-    """A map of ways that meet, pass barriers and the same nodes again, and name nodes that it lacks, with tags of all kinds; or of many ways
-    of few nodes, some of which no car may take."""
+    """A map of ways that meet, pass barriers and the same nodes again, and name nodes that it lacks, with tags of all kinds; or of many
+    ways of few nodes, some of which no car may take."""
     def tagged(text: str) -> str:
         return "".join(f'<tag k="{key}" v="{value}"/>' for key, value in tags_of(text).items())
 
@@ -46,45 +47,51 @@ def maps(draw: Any, is_dense: bool = False) -> str:
     return f"<osm version='0.6'>{''.join(nodes)}{''.join(lines)}</osm>"
 
 
+def run_script(name: str, *words: object) -> None:
+    """Runs a script of tests/manual in this process."""
+    with mock.patch.object(sys, "argv", [name, *map(str, words)]), contextlib.redirect_stdout(None):
+        SCRIPTS[name]()
+
+
+@contextlib.contextmanager
+def map_in_folder(text: str) -> Iterator[pathlib.Path]:
+    """The path of a map, which may have no road, or none but from a barrier back to it."""
+    with tempfile.TemporaryDirectory() as folder:
+        path = pathlib.Path(folder, "map.osm")
+        path.write_text(text)
+        try:
+            yield path
+        except FileError as error:
+            is_cut = "barrier" in text and "has no node that the map has too" in str(error)
+            assert is_cut or "has no road that the profile takes" in str(error)
+
+
 @drawn(150)
 @given(maps(), st.sampled_from([30, 250]), st.sampled_from(["time", "length"]))
 def test_drawn_maps(text: str, longest: float, weight: str) -> None:
-    with tempfile.TemporaryDirectory() as folder:
-        path, out, words = pathlib.Path(folder, "map.osm"), f"{folder}/map", ["--longest-arc", str(longest), "--weight", weight]
-        path.write_text(text)
-        try:
-            run_tool("osm_to_gr", path, out, "--keep-islands", *words)
-        except MapError as error:
-            assert "has no road that the profile takes" in str(error)
-            return
-        with mock.patch.object(sys, "argv", ["compare_converters", str(path), out, *words]):
-            COMPARE()
+    with map_in_folder(text) as path:
+        words = path, path.with_suffix(""), "--longest-arc", longest, "--weight", weight
+        run_tool("osm_to_gr", *words, "--keep-islands")
+        run_script("compare_converters", *words)
 
 
 @drawn(60)
 @given(maps(is_dense=True), st.integers(1, 9), st.booleans())
 def test_drawn_turns(text: str, restrictions: int, has_penalties: bool) -> None:
     """Of restrictions from ways into others that meet at one node, which vehicles take or don't."""
-    with tempfile.TemporaryDirectory() as folder:
-        path, words = pathlib.Path(folder, "map.osm"), ["--draw", str(restrictions), *["--penalties"] * has_penalties]
-        path.write_text(text)
-        with mock.patch.object(sys, "argv", ["compare_turns", str(path), *words]), contextlib.redirect_stdout(None):
-            try:
-                COMPARE_TURNS()
-            except MapError as error:
-                assert "has no road that the profile takes" in str(error)
+    with map_in_folder(text) as path:
+        run_script("compare_turns", path, "--draw", restrictions, *["--penalties"] * has_penalties)
 
 
 @pytest.mark.parametrize("words, old, new, says", [
     ([], "a 1 2 16012\n", "a 1 2 16020\n", "the lengths from node"),
     (["--keep-islands"], "a 37 38 13343\na 38 37 13343\n", "a 37 38 13343\na 1 37 13343\n", "only one of the two reaches node"),
-    (["--profile", "lorry"], "", "", "lorry.json: has members that the second conversion doesn't know: fastest, maxspeed, measures"),
+    (["--profile", "lorry"], "", "", "lorry.json: has members that the second conversion doesn't know: fastest, maxspeed, me"),
 ], ids=["a weight", "an arc of Far Road, which nothing else reaches", "a profile"])
 def test_what_is_wrong_is_seen(tmp_path, words, old, new, says):
     run_tool("osm_to_gr", VILLAGE, tmp_path / "v", *words)
     text = (tmp_path / "v.gr").read_text(encoding="utf-8")
     assert old in text
     (tmp_path / "v.gr").write_text(text.replace(old, new, 1), encoding="utf-8")
-    words = ["compare_converters", str(VILLAGE), str(tmp_path / "v"), *(word for word in words if word != "--keep-islands")]
-    with mock.patch.object(sys, "argv", words), pytest.raises(DomethymeError, match=says):
-        COMPARE()
+    with pytest.raises(FileError, match=says):
+        run_script("compare_converters", VILLAGE, tmp_path / "v", *(word for word in words if word != "--keep-islands"))

@@ -25,10 +25,10 @@ CALLS = [
     ("reach net net.rch places.csv -o out", "out"), ("match net net.rch places.csv -o out", "out"),
     ("reweigh net places.csv out --unmatched more", "out.gr out.net more"), ("without net toll out", "out"),
     ("draw net answers out.svg", "out.svg"), ("page net net.rch out.html", "out.html"), ("nearest x.co trips.csv -o out", "out"),
-    ("to_network places.csv trips.csv out --tables", "out.gr out.net out.nodes.csv out.arcs.csv"),
-    ("osm_to_gr answers out --profile own.json --tables", "out.gr out.net out.nodes.csv out.arcs.csv"),
+    ("to_network places.csv trips.csv out --tables", "out.gr out.net out.nodes.csv out.arcs.csv out.arcs.prj"),
+    ("osm_to_gr answers out --profile own.json --tables", "out.gr out.net out.nodes.csv out.arcs.csv out.nodes.csvt"),
 ]
-OF_NETWORK = ["net.net", "net.gr", "net.nodes.csv", "net.arcs.csv"]
+BESIDE = {"net": ["net.net", "net.gr", "net.nodes.csv", "net.arcs.csv"], "x.co": ["x.gr"]}
 
 
 @pytest.mark.parametrize("call, outputs", CALLS, ids=[call.split()[0] for call, _ in CALLS])
@@ -36,8 +36,8 @@ def test_no_output_is_an_input(tmp_path, monkeypatch, call, outputs):
     """By none of its names: the call is refused before anything is read, and nothing is written."""
     monkeypatch.chdir(tmp_path)
     tool, *words = call.split()
-    inputs, beside = ("net.rch", "answers", ".csv", ".json", ".co"), {"net": OF_NETWORK, "x.co": ["x.gr"]}
-    files = [*(name for word in words for name in beside.get(word, [])), *(word for word in words if word.endswith(inputs))]
+    inputs = "net.rch", "answers", ".csv", ".json", ".co"
+    files = [*(name for word in words for name in BESIDE.get(word, [])), *(word for word in words if word.endswith(inputs))]
     for name in files:
         (tmp_path / name).write_text(name)
     with pytest.raises((domethyme.DomethymeError, ValueError)):  # (of the files, not of the words)
@@ -85,7 +85,8 @@ class OverwritingTests(ToolCase):
         self.assertIn(says, self.run_tool(*words, status=status, given=given).stderr)
         self.assertEqual(self.contents(), before)
 
-    def test_standard_input(self):
+    def test_standard_input_and_output(self):
+        """What is written to a file is behind what it has already; a full disk is named."""
         self.run_tool("to_network", "firm.nodes.csv", "firm.arcs.csv", "net")
         before = self.contents()
         with open(self.folder / "trips.csv", encoding="utf-8") as trips:
@@ -96,15 +97,17 @@ class OverwritingTests(ToolCase):
         for output in (subprocess.PIPE, subprocess.DEVNULL):
             words = [TOOLS / "nearest", "net", "trips.csv", "-o", "/dev/null", "--snapped", "/dev/null"]
             subprocess.run(words, cwd=self.folder, stdout=output, check=True)
-        with open(self.folder / "told", "w+") as file:  # (of which standard output isn't the beginning)
+        with open(self.folder / "told", "w") as file:
             for output in ("-", "/dev/stdout", "/dev/fd/1"):
                 subprocess.run([TOOLS / "nearest", "net", "trips.csv", "-o", output], cwd=self.folder, stdout=file, check=True)
         self.assertEqual((self.folder / "told").read_text().count("q 1 2"), 3)
+        told = self.run_tool("nearest", "net", "trips.csv", "-o", "/dev/full", status=1)
+        self.assertEqual(told.stderr, "nearest: /dev/full: No space left on device\n")
 
-    def test_standard_output(self):
-        """A pipe, by its names."""
+    def test_two_outputs_are_standard_output(self):
         for one, other in itertools.product(("-", "/dev/stdout", "/dev/fd/1"), repeat=2):
-            self.assert_kept("table", "net", "net.rch", "a.csv", "b.csv", "-o", one, "--metres", other, says="two outputs are standard output")
+            words = "table", "net", "net.rch", "a.csv", "b.csv", "-o", one, "--metres", other
+            self.assert_kept(*words, says="two outputs are standard output")
 
     def test_tables_of_a_user(self):
         """They are neither overwritten nor removed, and are never read in place of the network's file."""
@@ -146,7 +149,8 @@ class OverwritingTests(ToolCase):
             self.run_tool("to_network", nodes, arcs, net)
             self.assertIn("q 1 2", self.run_tool("nearest", net, "trips.csv").stdout)
             self.write(arcs, ARCS.replace("50", "60"))
-            self.assert_refused("nearest", net, "trips.csv", says=f"{arcs}: has changed since {net}.net was made of it: run `to_network` again")
+            says = f"{arcs}: has changed since {net}.net was made of it: run `to_network` again"
+            self.assert_refused("nearest", net, "trips.csv", says=says)
             with self.assertRaisesRegex(domethyme.NetworkError, f"{arcs}: has changed since"):
                 domethyme.Network(self.folder / net).arcs_frame()
             self.run_tool("to_network", nodes, arcs, net)

@@ -32,16 +32,9 @@ class CheckPackages(PackagesCase):
         self.write("packages", "# a comment\nfirst-package # and another\n\nsecond-package\n")
         self.put_program("sleep", "#!/bin/sh\n")
 
-    def test_all_are_there(self):
-        self.put_program("dpkg-query", "#!/bin/sh\necho -n installed\n")
-        self.put_program("apt-get", "#!/bin/sh\necho called >calls\n")
-        ended = self.run_tool("check_packages", "packages", environment=self.path)
-        self.assertEqual((ended.stdout, ended.stderr), ("", ""))
-        self.assertFalse((self.folder / "calls").exists())
-
     def test_the_second_is_missing(self):
-        """For root: it is installed, also without lists of another source, or by a mirror that is busy at first; there is no network; and an
-        installation of which apt-get says that all went well."""
+        """For root: it is installed, also without lists of another source, or by a mirror that is busy at first; there is no network;
+        and an installation of which apt-get says that all went well."""
         there, says = "echo -n installed >status", "check_packages: Debian packages of the map tools are missing"
         remedy = ": as root, apt-get install second-package\n"
         self.put_program("id", "#!/bin/sh\necho 0\n")
@@ -61,12 +54,17 @@ class CheckPackages(PackagesCase):
             self.assertTrue(calls[0].endswith(" update"))
             self.assertTrue(calls[1].endswith(" install -y --no-install-recommends second-package"))
 
-    def test_others_are_told_what_to_install(self):
+    def test_where_apt_get_is_not_called(self):
+        """Others than root are told what to install; and where all are there there is nothing to do."""
+        self.put_program("apt-get", "#!/bin/sh\necho called >calls\n")
         self.put_program("id", "#!/bin/sh\necho 1000\n")
         self.put_program("dpkg-query", "#!/bin/sh\nexit 1\n")
-        self.put_program("apt-get", "#!/bin/sh\necho called >calls\n")
         says = "are missing: as root, apt-get install first-package second-package\n"
         self.assert_refused("check_packages", "packages", says=says, environment=self.path)
+        self.put_program("id", "#!/bin/sh\necho 0\n")
+        self.put_program("dpkg-query", "#!/bin/sh\necho -n installed\n")
+        ended = self.run_tool("check_packages", "packages", environment=self.path)
+        self.assertEqual((ended.stdout, ended.stderr, (self.folder / "calls").exists()), ("", "", False))
 
     def test_arguments_that_are_refused(self):
         self.run_tool("check_packages", "none", status=2)

@@ -43,15 +43,16 @@ class CommandTests(ToolCase):
 
     def test_where_none_is_installed(self):
         """A library that isn't there is asked for in vain, and so is a word that is none of the choices."""
-        prepares = [({}, 7, f"{TUNED}|prepare|", ""), ({"ROUTECLI_ALLOCATOR": "auto"}, 7, f"{TUNED}|prepare|", f"{OF_C}, {TUNED}\n")]
-        for word, library in (("jemalloc", JEMALLOC), ("mimalloc", MIMALLOC)):
-            prepares.append(({"ROUTECLI_ALLOCATOR": word}, 2, "", f"{SAYS}{self.libraries / library} isn't installed\n"))
-        wrong = "'tcmalloc' isn't one of auto, mimalloc, jemalloc, tuned, compact and none\n"
-        for environment, status, *wanted in (*prepares, ({"ROUTECLI_ALLOCATOR": "tcmalloc"}, 2, "", SAYS + wrong)):
-            self.assertEqual([*self.ran("prepare", status=status, **environment)], wanted)
+        self.assertEqual(self.ran("prepare"), (f"{TUNED}|prepare|", ""))
+        self.assertEqual(self.ran("prepare", ROUTECLI_ALLOCATOR="auto"), (f"{TUNED}|prepare|", f"{OF_C}, {TUNED}\n"))
+        for word, says in [
+            *((word, f"{self.libraries / name} isn't installed") for word, name in (("jemalloc", JEMALLOC), ("mimalloc", MIMALLOC))),
+            ("tcmalloc", "'tcmalloc' isn't one of auto, mimalloc, jemalloc, tuned, compact and none"),
+        ]:
+            self.assertEqual(self.ran("prepare", status=2, ROUTECLI_ALLOCATOR=word), ("", f"{SAYS}{says}\n"))
 
     def test_where_both_are_installed(self):
-        """Only prepare gets one; a choice is said where it is asked for; arguments and the status are kept, and what is set already."""
+        """Only prepare gets one; a choice is said where it is asked for; arguments, the status and what is set already are kept."""
         for name in (JEMALLOC, MIMALLOC):
             shutil.copy(LIBRARY, self.libraries / name)
         path = {name: self.libraries / name for name in (JEMALLOC, MIMALLOC)}
@@ -60,8 +61,9 @@ class CommandTests(ToolCase):
         self.assertEqual(self.ran("route", "a b", "", "*"), ("nothing|route|a b||*|", ""))
         self.assertEqual(self.ran(), ("nothing|", ""))
         self.assertEqual(self.ran("prepare", "a b", ""), (f"{path[MIMALLOC]}|prepare|a b||", ""))
+        libraries = ("auto", MIMALLOC), ("mimalloc", MIMALLOC), ("jemalloc", JEMALLOC)
         for word, preloaded, said in [
-            *((word, path[name], f"{SAYS}{path[name]}\n") for word, name in (("auto", MIMALLOC), ("mimalloc", MIMALLOC), ("jemalloc", JEMALLOC))),
+            *((word, path[name], f"{SAYS}{path[name]}\n") for word, name in libraries),
             ("none", "nothing", f"{OF_C}\n"), ("tuned", TUNED, f"{OF_C}, {TUNED}\n"), ("compact", COMPACT, f"{OF_C}, {COMPACT}\n"),
         ]:
             self.assertEqual(self.ran("prepare", ROUTECLI_ALLOCATOR=word), (f"{preloaded}|prepare|", said))
@@ -89,8 +91,10 @@ class CompletionTests(ToolCase):
         return self.run_program(["/bin/bash", "-c", script, "bash", file, *words]).stdout.split()
 
     def test_options_and_values(self):
-        for words, *wanted in (("nearest --ra", "--radius"), ("serve net.rch --log", "--log-places"), ("to-geojson --format l", "lines"),
-                               ("osm-to-gr --weight ", "length", "time"), ("route-many net",)):
+        for words, *wanted in [
+            ("nearest --ra", "--radius"), ("serve net.rch --log", "--log-places"), ("to-geojson --format l", "lines"),
+            ("osm-to-gr --weight ", "length", "time"), ("route-many net",),
+        ]:
             self.assertEqual(self.completed(*f"domethyme-{words}".split(" ")), wanted)
         self.assertIn("-h", self.completed("domethyme-fetch-extract", "-"))
 

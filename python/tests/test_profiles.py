@@ -16,8 +16,8 @@ from domethyme.maps.vehicle_profile import PROFILES, blocks_way, judge, limit_of
 CAR = json.loads((PROFILES / "car.json").read_text(encoding="utf-8"))
 del CAR["about"]
 VEHICLES = ("car", "lorry", "bicycle", "foot")
-# The km/h forward and backward (- where it may not be taken) of ways with these tags, by vehicle: of primary roads where no class is
-# named. A ~ is a blank.
+# The km/h forward and backward (- where it may not be taken) of ways with these tags, by vehicle: of primary roads where no class
+# is named. A ~ is a blank.
 WAYS = {
     "car": """
         70 70: oneway=no, oneway=alternating, junction=roundabout oneway=no, junction=yes, maxspeed=DE:variable, maxspeed=0,
@@ -88,7 +88,8 @@ def ways_of(vehicle):
     for group in WAYS[vehicle].split(" |"):
         speeds, texts = group.split(": ", 1)
         found = [None if speed == "-" else float(speed) for speed in speeds.split()]
-        yield from ((text if "highway=" in text else f"highway=primary {text}", *found) for text in re.split(r",\s+", texts.strip()))
+        for text in re.split(r",\s+", texts.strip()):
+            yield text if "highway=" in text else f"highway=primary {text}", *found
 
 
 @pytest.mark.parametrize("vehicle", WAYS)
@@ -141,14 +142,16 @@ def test_each_profile_is_listed():
     ({"driving_side": "middle"}, ": driving_side isn't one of right, left"),
     ({"mode": ["driving"]}, ": mode isn't one of driving, cycling, walking"),
     ({"turns": {"around": 5}}, ": turns isn't hundredths of a second from 0 to 360000 by the words left, right, back"),
-    *(({"turns": turns}, ": turns isn't hundredths") for turns in ({"left": 1.5}, {"left": -1}, {"left": 360001}, {"back": True}, [5])),
+    *(({"turns": {"left": penalty}}, ": turns isn't hundredths") for penalty in (1.5, -1, 360001, True)),
+    ({"turns": [5]}, ": turns isn't hundredths"),
     ({"fastest": 0}, ": fastest isn't a speed from 1 to 1000"), ({"fastest": math.nan}, ": fastest isn't"),
     ({"speeds": {"primary": 1001}}, ": speeds isn't speeds from 1 to 1000 by names: primary is 1001"),
     ({"speeds": {"primary": "70"}}, ": speeds isn't speeds"), ({"maxspeed_words": {"none": True}}, ": maxspeed_words isn't speeds"),
     ({"measures": {"maxheight": "4"}}, ': measures isn\'t measures in metres or tonnes by names: maxheight is "4"'),
     ({"surfaces": {"mud": 0}}, ": surfaces isn't speeds"), ({"measures": {"maxheight": -0.1}}, ": measures isn't measures"),
     *(({"both_ways": [word]}, ": both_ways isn't a list of words KEY=VALUE") for word in ("cycleway", "a=b=c")),
-    ({"closed_by": "motorroad=yes"}, ": closed_by isn't a list of words KEY=VALUE"), ({"oneway": "oneway"}, ": oneway isn't a list of words"),
+    ({"closed_by": "motorroad=yes"}, ": closed_by isn't a list of words KEY=VALUE"),
+    ({"oneway": "oneway"}, ": oneway isn't a list of words"),
     ({"barriers": "bollard"}, ": barriers isn't a list of words"), ({"restrictions": [1]}, ": restrictions isn't a list of words"),
 ])
 def test_members_with_faults(tmp_path, members, says):
@@ -168,8 +171,8 @@ def own(folder, **members):
 
 def test_members_at_their_bounds(tmp_path):
     """Of the most km/h of the vehicle and of a surface the less counts."""
-    path = own(tmp_path, turns={"left": 360_000, "right": 0}, fastest=1, speeds={"primary": 1000}, measures={"maxheight": 0}, surfaces={"mud": 5})
-    profile = read_profile(str(path))
+    bounds = {"fastest": 1, "speeds": {"primary": 1000}, "measures": {"maxheight": 0}, "surfaces": {"mud": 5}}
+    profile = read_profile(str(own(tmp_path, turns={"left": 360_000, "right": 0}, **bounds)))
     assert profile.turns == {"left": 360_000, "right": 0}
     assert [judge({"highway": "primary", "surface": surface}, profile).forward for surface in ("mud", "asphalt")] == [1, 1]
 
@@ -186,7 +189,8 @@ def test_restrictions_of_the_profile(tmp_path):
 
 
 def test_penalties_at_a_crossing(tmp_path):
-    """Of a turn left, right and back, in milliseconds of a way of STEP and in seconds, also where restrictions are ignored; no lengths."""
+    """Of a turn left, right and back, in milliseconds of a way of STEP and in seconds, also where restrictions are ignored; lengths
+    have none."""
     text = crossing((2, 3, {"restriction": "no_left_turn"}))
     words = "--ignore-turn-restrictions", "--profile", own(tmp_path, turns={"left": 500, "right": 200, "back": 2000})
     said, arcs = converted(tmp_path, text, *words)
@@ -200,7 +204,8 @@ def test_a_bend_is_no_turn_and_a_hairpin_is_one(tmp_path):
     """Of a road of three ways over the 180th meridian: at 2 it bends by 40 degrees, at 3 it turns by 100 degrees to the right."""
     places = {1: (179.9995, 0), 2: (-179.9995, 0), 3: (-179.998734, "0.000643"), 4: (-179.998234, "-0.000223")}
     ways = [((node, node + 1), {"highway": "residential", "oneway": "yes"}) for node in (1, 2, 3)]
-    arcs = converted(tmp_path, osm_map(places, ways), "--keep-islands", "--profile", own(tmp_path, turns={"left": 0, "right": 200}))[1]
+    profile = own(tmp_path, turns={"left": 0, "right": 200})
+    arcs = converted(tmp_path, osm_map(places, ways), "--keep-islands", "--profile", profile)[1]
     plain = 111195.08 * 3600 / 30 / 1000
     found = {(osm, round((weight - plain) / 1000)) for osm, weight in zip(arcs["osm"], arcs["weight"])}
     assert found == {(1, 0), (2, 0), (3, 0), (3, 2)}

@@ -180,7 +180,8 @@ class Tables(SharedCase):
         told = ", row 1: has no columns a, b; its columns are a;b: fields have to be separated by commas"
         self.assert_table_fault(told, b"a;b\n")
         for name in (" b", "b "):
-            self.assert_table_fault(f", row 1: has no column b; its columns are a, {name}: there is a blank beside b", f"a,{name}\n".encode())
+            says = f", row 1: has no column b; its columns are a, {name}: there is a blank beside b"
+            self.assert_table_fault(says, f"a,{name}\n".encode())
         self.assert_table_fault(", row 1: has two columns a", b"a,b,a\n")
         self.assert_table_fault(", row 3: has 1 fields in place of 2", b"a,b\n1,2\n3\n")
         self.assert_table_fault(", row 2: has 3 fields in place of 2", b"a,b\n1,2,3\n")

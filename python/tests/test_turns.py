@@ -17,12 +17,16 @@ FROM, VIA, TO = ("w", 1, "from"), ("n", 2, "via"), ("w", 3, "to")
 
 def crossing(*restrictions):
     """The map of the crossing with relations (from, to, value), whose ways are named by the nodes at their ends."""
-    more = ""
-    for number, (start, end, value) in enumerate(restrictions, 1):
-        rows = ("way", start, "from"), ("way", end, "to"), ("node", 1, "via")
-        members = "".join(f"<member type='{kind}' ref='{ref}' role='{role}'/>" for kind, ref, role in rows)
-        more += f"<relation id='{number}'>{members}<tag k='type' v='restriction'/><tag k='restriction' v='{value}'/></relation>"
-    return map_text(PLACES, {end: ((end, 1), {"highway": "residential"}) for end in (2, 3, 4, 5)}, more)
+    rules = (relation(number, start, 1, end, {"restriction": value}) for number, (start, end, value) in enumerate(restrictions, 1))
+    return map_text(PLACES, {end: ((end, 1), {"highway": "residential"}) for end in (2, 3, 4, 5)}, "".join(rules))
+
+
+def relation(number, start, via, end, tags):
+    """A turn restriction from a way by a node into a way."""
+    members = (("way", start, "from"), ("node", via, "via"), ("way", end, "to"))
+    text = "".join(f"<member type='{kind}' ref='{osm}' role='{role}'/>" for kind, osm, role in members)
+    told = "".join(f"<tag k='{key}' v='{value}'/>" for key, value in {"type": "restriction", **tags}.items())
+    return f"<relation id='{number}'>{text}{told}</relation>"
 
 
 @pytest.mark.parametrize("turns, copies", [([(2, 3), (4, 3)], 1), ([(2, 3)], 1), ([(2, 3), (3, 4), (4, 5), (5, 2)], 4)])

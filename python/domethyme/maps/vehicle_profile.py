@@ -31,7 +31,8 @@ MEASURES = {None: 1, "m": 1, "cm": 0.01, "ft": 0.3048, "t": 1, "kg": 0.001, "st"
 NO_LIMIT = ("none", "no", "default", "unsigned", "no_sign", "unspecified")
 # The class of a ferry's way, and the forms of its duration, which a weight has room for
 FERRY = "ferry"
-DURATION, ISO_DURATION = re.compile(r"[0-9]{1,4}|[0-9]{1,3}(:[0-5][0-9]){1,2}"), re.compile(r"PT(?:([0-9]{1,3})H)?(?:([0-9]{1,4})M)?(?:([0-9]{1,4})S)?")
+DURATION = re.compile("[0-9]{1,4}|[0-9]{1,3}(:[0-5][0-9]){1,2}")
+ISO_DURATION = re.compile(r"PT(?:([0-9]{1,3})H)?(?:([0-9]{1,4})M)?(?:([0-9]{1,4})S)?")
 # hundredths of a second
 TURNS, MAX_PENALTY = ("left", "right", "back"), 360_000
 # What the network keeps of a profile, and what it may be.
