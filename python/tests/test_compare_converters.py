@@ -24,14 +24,14 @@ FERRIES = ["route=ferry", "route=ferry duration=3", "route=ferry duration=7 onew
 
 @st.composite
 def maps(draw: Any, is_dense: bool = False) -> str:
-    """A map of ways that meet, pass barriers and the same nodes again, and name nodes that it lacks, with tags of all kinds; or of many
-    ways of few nodes, some of which no car may take."""
+    """A map of ways that meet, pass barriers and the same nodes again, and name nodes that it lacks, with tags of all kinds; or of
+    many ways of few nodes, some of which no car may take."""
     def tagged(text: str) -> str:
         return "".join(f'<tag k="{key}" v="{value}"/>' for key, value in tags_of(text).items())
 
     fewest, most = (3, 5) if is_dense else (2, 9)
     steps = st.lists(st.tuples(st.integers(-40, 40), st.integers(-40, 40)), min_size=fewest, max_size=most, unique=True)
-    barriers, tags = st.sampled_from([text for text, _ in BARRIERS]), st.sampled_from([*(row[0] for row in ways_of("car")), *FERRIES])
+    barriers, tags = st.sampled_from([row[0] for row in BARRIERS]), st.sampled_from([*(row[0] for row in ways_of("car")), *FERRIES])
     nodes = [
         f"<node id='{number}' lon='{9.5 + east * 1e-4}' lat='{47.1 + north * 1e-4}'>"
         f"{tagged(draw(barriers)) if not is_dense and draw(st.integers(0, 3)) == 0 else ''}</node>" for number, (east, north) in enumerate(draw(steps), 1)

@@ -155,7 +155,7 @@ def test_progress(tmp_path, monkeypatch):
 
 def test_a_network_that_is_too_large():
     conversion.check_limits(1 << 25, 1 << 27, "map.osm")
-    for nodes, arcs, says in (((1 << 25) + 1, 0, "33554433 nodes, and there may be 33554432"), (0, (1 << 27) + 1, "134217729 arcs")):
+    for nodes, arcs, says in (((1 << 25) + 1, 0, "33554433 nodes, and there may be 33554432:"), (0, (1 << 27) + 1, "134217729 a")):
         with pytest.raises(MapError, match=f"map.osm: makes a network of {says}"):
             conversion.check_limits(nodes, arcs, "map.osm")
 

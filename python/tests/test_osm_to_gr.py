@@ -80,7 +80,7 @@ def convert(*words, source=VILLAGE, out="village"):
 
 
 def drawn(out="village"):
-    """How often each (way, from, to, weight) comes among the rows, where a node is its id in the map, or its place in the drawing."""
+    """How often each (way, from, to, weight) comes among the rows; a node is its id in the map, or its place in the drawing."""
     label = {each.node: each.osm or f"({each.lon * 1000:.3f}, {each.lat * 1000:.3f})" for each in read_rows(f"{out}.nodes.csv")}
     return collections.Counter((arc.name, label[arc.start], label[arc.end], arc.weight) for arc in read_rows(f"{out}.arcs.csv"))
 
@@ -141,7 +141,7 @@ def test_shorter_arcs():
 
 @pytest.mark.parametrize("words, wanted", [
     ([], "© OpenStreetMap contributors (ODbL 1.0)"), (["--attribution", ""], ""),
-    (["--attribution", "Drawn\nby hand"], "Drawn by hand"), (["--attribution", "caf\udce9"], "caf?"),  # (an argument that isn't UTF-8)
+    (["--attribution", "Drawn\nby hand"], "Drawn by hand"), (["--attribution", "caf\udce9"], "caf?"),  # (that isn't UTF-8)
 ])
 def test_attribution_is_a_comment_of_the_graph(words, wanted):
     convert(*words)

@@ -33,8 +33,8 @@ class CheckPackages(PackagesCase):
         self.put_program("sleep", "#!/bin/sh\n")
 
     def test_the_second_is_missing(self):
-        """For root: it is installed, also without lists of another source, or by a mirror that is busy at first; there is no network;
-        and an installation of which apt-get says that all went well."""
+        """For root: it is installed, also without lists of another source, or by a mirror that is busy at first; there is no
+        network; and an installation of which apt-get says that all went well."""
         there, says = "echo -n installed >status", "check_packages: Debian packages of the map tools are missing"
         remedy = ": as root, apt-get install second-package\n"
         self.put_program("id", "#!/bin/sh\necho 0\n")

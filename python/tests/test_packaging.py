@@ -46,7 +46,8 @@ class CommandTests(ToolCase):
         self.assertEqual(self.ran("prepare"), (f"{TUNED}|prepare|", ""))
         self.assertEqual(self.ran("prepare", ROUTECLI_ALLOCATOR="auto"), (f"{TUNED}|prepare|", f"{OF_C}, {TUNED}\n"))
         for word, says in [
-            *((word, f"{self.libraries / name} isn't installed") for word, name in (("jemalloc", JEMALLOC), ("mimalloc", MIMALLOC))),
+            ("jemalloc", f"{self.libraries / JEMALLOC} isn't installed"),
+            ("mimalloc", f"{self.libraries / MIMALLOC} isn't installed"),
             ("tcmalloc", "'tcmalloc' isn't one of auto, mimalloc, jemalloc, tuned, compact and none"),
         ]:
             self.assertEqual(self.ran("prepare", status=2, ROUTECLI_ALLOCATOR=word), ("", f"{SAYS}{says}\n"))

@@ -6,7 +6,7 @@ import sys
 import pytest
 from tool_case import PYTHON, ROOT
 
-PASSES, NEEDS = "def test_a(): pass\n", "@pytest.mark.needs('{}')\nclass {}:\n def test_it(self): pass\n"
+PASSES, NEEDS = "def test_a(): pass\n", "@pytest.mark.needs('{}')\nclass Test{}:\n def test_it(self): pass\n"
 
 
 @pytest.mark.parametrize("text, counts, status, told", [
@@ -16,10 +16,10 @@ PASSES, NEEDS = "def test_a(): pass\n", "@pytest.mark.needs('{}')\nclass {}:\n d
     (PASSES + "@pytest.mark.needs('of no list')\ndef test_b(): pass", "1 passed, 1 failed", 1, ""),
     (PASSES + "@pytest.fixture\ndef f():\n yield\n assert False\ndef test_b(f): pass", "1 passed, 1 failed", 1, ""),
     ("import no_such_module\ndef test_a(): pass", "0 passed, 1 failed", 1, ""), ("", "0 passed, 0 failed", 1, ""),
-    (NEEDS.format("sh", "TestA") + NEEDS.format("sh", "TestB(TestA)") + NEEDS.format("no-such-program", "TestC"), "2 passed, 0 failed",
+    (NEEDS.format("sh", "A") + NEEDS.format("sh", "B(TestA)") + NEEDS.format("no-such-program", "C"), "2 passed, 0 failed",
      0, "left out: python/tests/test_it.py::TestC::test_it needs its-package\npython/tests/run: "),
     (PASSES + "@pytest.mark.timeout(1)\ndef test_b(): time.sleep(100)", "1 passed, 1 failed", 1, "time.sleep(100)"),
-], ids=["passes", "fails", "skipped", "needs what isn't in the list", "fails at its end", "can't be imported", "none", "left out", "hangs"])
+], ids=["passes", "fails", "skipped", "needs what isn't listed", "fails at its end", "isn't imported", "none", "left out", "hangs"])
 def test_last_line(tmp_path, text, counts, status, told):
     """Runs pytest as tests/run does, by the same settings, on a file of tests with this text."""
     (tmp_path / "tests/kit").mkdir(parents=True)
