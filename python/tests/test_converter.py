@@ -9,9 +9,9 @@ from unittest import mock
 
 import numpy as np
 import pytest
-from draws import converted
+from draws import converted, map_text
 from test_turns import relation
-from tool_case import IN_TABLES, PYTHON, SECONDS, TAKES_SIGNALS, VILLAGE, ToolCase, osm_map
+from tool_case import IN_TABLES, PYTHON, SECONDS, TAKES_SIGNALS, VILLAGE, ToolCase
 
 import domethyme
 
@@ -203,7 +203,7 @@ def drawn_map(seed):
     for number in range(1, 30):
         start, end, via = draw.randrange(1, 25), draw.randrange(1, 25), draw.randrange(1, 13)
         relations.append(relation(number, start, via, end, {"restriction": draw.choice(("no_left_turn", "only_right_turn"))}))
-    return osm_map(places, ways, *relations)
+    return map_text(places, dict(enumerate(ways, 1)), "".join(relations))
 
 
 @pytest.mark.parametrize("count", [0, 1, 4, 5, 100])
@@ -251,7 +251,7 @@ def test_rounding():
 ])
 def test_where_a_road_is_cut(tmp_path, ends, longest, metres, lons):
     """Across the 180th meridian; and zero has no sign."""
-    text = osm_map(dict(enumerate(ends, 1)), [((1, 2), {"highway": "road"})])
+    text = map_text(dict(enumerate(ends, 1)), {1: ((1, 2), {"highway": "road"})})
     _, arcs = converted(tmp_path, text, "--weight", "length", "--longest-arc", longest, "--tables")
     nodes = domethyme.Network(tmp_path / "map").nodes_frame()
     found = [-180 if lon == 180 else lon for lon in nodes["lon"].tolist()]  # (one meridian)

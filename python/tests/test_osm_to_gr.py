@@ -9,8 +9,8 @@ import xml.etree.ElementTree as xml
 
 import osmium
 import pytest
-from draws import converted, run_tool
-from tool_case import VILLAGE, ToolCase, osm_map, read_rows
+from draws import converted, map_text, run_tool
+from tool_case import VILLAGE, ToolCase, read_rows
 
 from domethyme.dimacs import read_graph
 from domethyme.errors import DomethymeError
@@ -151,10 +151,10 @@ def test_attribution_is_a_comment_of_the_graph(words, wanted):
 @pytest.mark.parametrize("least, says", [("0.9", None), ("0.905", "less than 90.5%"), ("1", "less than 100%")])
 def test_at_least(folder, least, says):
     """Of ten nodes, of which one is beyond a one-way street."""
-    ways = [((1, 9), {"highway": "road"}), ((1, 0), {"highway": "road", "oneway": "yes"})]
+    ways = {1: ((1, 9), {"highway": "road"}), 2: ((1, 0), {"highway": "road", "oneway": "yes"})}
     refused = pytest.raises(DomethymeError, match=f"9 of 10 nodes reach one another, {says}: is the map cut")
     with refused if says else contextlib.nullcontext():
-        converted(folder, osm_map({x: (x / 1000, 0) for x in range(10)}, ways), "--longest-arc", "112", "--at-least", least)
+        converted(folder, map_text({x: (x / 1000, 0) for x in range(10)}, ways), "--longest-arc", "112", "--at-least", least)
 
 
 def test_histories_and_changes_are_no_maps(folder):
@@ -281,8 +281,8 @@ class BadInput(ToolCase):
 
 def converted_ways(folder, *ways, profile="car"):
     """What is said of a map of ways from 1 to 2 with these tags, of which each is a primary road, and their arcs."""
-    text = osm_map({1: (0, 0), 2: (0.001, 0)}, [((1, 2), {"highway": "primary", **way}) for way in ways])
-    said, arcs = converted(folder, text, "--profile", profile)
+    named = {number: ((1, 2), {"highway": "primary", **way}) for number, way in enumerate(ways, 1)}
+    said, arcs = converted(folder, map_text({1: (0, 0), 2: (0.001, 0)}, named), "--profile", profile)
     return said.splitlines(), arcs.drop_duplicates("osm")
 
 
@@ -302,8 +302,8 @@ def test_texts_of_roads(tmp_path):
 
 def test_weights_raised(tmp_path):
     """Of roads of 1.1 cm, 0.31 ms at 130 km/h and 0.8 ms at 50: those that would be 0."""
-    ways = [((1, 2), {"highway": "primary", "maxspeed": maxspeed}) for maxspeed in ("none", "50")]
-    said, arcs = converted(tmp_path, osm_map({1: (0, 0), 2: (0, "0.0000001")}, ways))
+    ways = {way: ((1, 2), {"highway": "primary", "maxspeed": speed}) for way, speed in enumerate(("none", "50"), 1)}
+    said, arcs = converted(tmp_path, map_text({1: (0, 0), 2: (0, "0.0000001")}, ways))
     assert said.startswith("osm_to_gr: weights raised to 1: 2\n") and arcs["weight"].tolist() == [1] * 4
 
 

@@ -4,9 +4,8 @@ import math
 import re
 
 import pytest
-from draws import converted
+from draws import converted, map_text
 from test_turns import STEP, crossing
-from tool_case import osm_map
 
 import domethyme
 from domethyme.errors import MapError
@@ -203,9 +202,9 @@ def test_penalties_at_a_crossing(tmp_path):
 def test_a_bend_is_no_turn_and_a_hairpin_is_one(tmp_path):
     """Of a road of three ways over the 180th meridian: at 2 it bends by 40 degrees, at 3 it turns by 100 degrees to the right."""
     places = {1: (179.9995, 0), 2: (-179.9995, 0), 3: (-179.998734, "0.000643"), 4: (-179.998234, "-0.000223")}
-    ways = [((node, node + 1), {"highway": "residential", "oneway": "yes"}) for node in (1, 2, 3)]
+    ways = {node: ((node, node + 1), {"highway": "residential", "oneway": "yes"}) for node in (1, 2, 3)}
     profile = own(tmp_path, turns={"left": 0, "right": 200})
-    arcs = converted(tmp_path, osm_map(places, ways), "--keep-islands", "--profile", profile)[1]
+    arcs = converted(tmp_path, map_text(places, ways), "--keep-islands", "--profile", profile)[1]
     plain = 111195.08 * 3600 / 30 / 1000
     found = {(osm, round((weight - plain) / 1000)) for osm, weight in zip(arcs["osm"], arcs["weight"])}
     assert found == {(1, 0), (2, 0), (3, 0), (3, 2)}

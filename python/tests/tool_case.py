@@ -97,15 +97,6 @@ def run_python(code, *words, folder=None, status=0, **environment):
     return ended
 
 
-def osm_map(places, ways, *others):
-    """The text of a map: nodes by their ids at places LON and LAT, ways from 1 on with their nodes and tags, and other elements."""
-    text = [f"<node id='{node}' lon='{lon}' lat='{lat}'/>" for node, (lon, lat) in places.items()]
-    for number, (nodes, tags) in enumerate(ways, 1):
-        told = "".join(f"<tag k='{key}' v='{value}'/>" for key, value in tags.items())
-        text.append(f"<way id='{number}'>{''.join(f'<nd ref={str(node)!r}/>' for node in nodes)}{told}</way>")
-    return "\n".join(["<osm version='0.6'>", *text, *others, "</osm>"])
-
-
 def contrast(*colours: str) -> float:
     """The ratio of two colours, by the Web Content Accessibility Guidelines."""
     lights = []
