@@ -108,6 +108,11 @@ class Box(NamedTuple):
     def middle(self) -> Point:
         return (self.left + self.right) / 2, (self.top + self.bottom) / 2
 
+    @property
+    def metres(self) -> float:
+        """The length on the ground, in the middle of the box, of 1 on the plane."""
+        return 2 * math.pi * EARTH_RADIUS / math.cosh(2 * math.pi * (0.5 - self.middle[1]))
+
     def grown(self, margin: float) -> "Box":
         """The box with a margin on each side."""
         return Box(self.left - margin, self.top - margin, self.right + margin, self.bottom + margin)
@@ -139,8 +144,7 @@ class View:
     @property
     def metres_of_a_pixel(self) -> float:
         """The length of a pixel on the ground, in the middle of the picture."""
-        north = 0.5 - self.box.middle[1]
-        return 2 * math.pi * EARTH_RADIUS / math.cosh(2 * math.pi * north) / self.scale
+        return self.box.metres / self.scale
 
 
 def path_of(pixels: Iterable[Point]) -> str:

@@ -1,6 +1,5 @@
 """The roads that are drawn around routes, by their kinds."""
 import itertools
-import math
 from collections.abc import Iterator
 from typing import NamedTuple
 
@@ -8,7 +7,7 @@ import numpy
 
 from ..errors import NetworkError
 from ..network.columns import TEXTS, UNITS
-from ..network.geo import EARTH_RADIUS, Point, metres_between
+from ..network.geo import Point, metres_between
 from ..network.groups import Ints, expand, offsets
 from ..network.net_file import MappedNetwork
 from ..network.zoom_levels import to_mercator as mercator_of
@@ -53,19 +52,22 @@ BESIDE, AREA_BESIDE = 0.001, 0.1
 
 
 def read_roads(
-    arrays: MappedNetwork, box: Box | None, most: int | None = None, on_progress: OnProgress = lambda what, done, total: None
+    arrays: MappedNetwork, box: Box | None, most: int | None = None, on_progress: OnProgress = lambda what, done, total: None,
+    near: float = 0.0
 ) -> list[RoadLines]:
-    """For each style the lines of its roads, and then for each those of its tunnels; a road of two directions comes once,
-    and with a box only those that meet it. With `most` the least important styles are left out that would make more points of all."""
+    """For each style the lines of its roads, and then for each those of its tunnels; a road of two directions comes once, and with a box
+    only those that meet it; without one they begin within 180 degrees of the longitude `near`. With `most` the least important styles are
+    left out that would make more points of all, but for the most important one that is there."""
     roads = [RoadLines(style, dashes, []) for dashes in (None, DASHES) for style in ROAD_STYLES]
-    near = (arrays.about["west"] + arrays.about["east"]) / 2 / UNITS if box is None else from_mercator(box.middle)[0]
+    near = near if box is None else from_mercator(box.middle)[0]
     edges = edges_in(arrays, box)
     styles, counts = styles_of(arrays, edges), arrays.edge_begin[edges + 1] - arrays.edge_begin[edges]
     if most is not None:
-        of_each = numpy.bincount(styles % len(ROAD_STYLES), counts, len(ROAD_STYLES))
+        classes = styles % len(ROAD_STYLES)
+        of_each = numpy.bincount(classes, counts, len(ROAD_STYLES))
         has_room = numpy.cumsum(of_each[::-1])[::-1] <= most
-        has_room[-1] |= not has_room.any()
-        edges = edges[has_room[styles % len(ROAD_STYLES)]]
+        has_room[classes.max(initial=0)] = True
+        edges = edges[has_room[classes]]
         styles = styles_of(arrays, edges)
     seen = set()
     for low in range(0, len(edges), PART):
@@ -78,8 +80,8 @@ def read_roads(
 
 
 def edges_in(arrays: MappedNetwork, box: Box | None) -> Ints:
-    """The edges in a box, and others, or all, in their order."""
-    if box is None or box.width >= WIDE:
+    """The edges in a box, and others, or all, in their order. Those beyond 85.05 degrees are drawn at the edge of the plane."""
+    if box is None or box.width >= WIDE or box.top < 0 or box.bottom > 1:
         return numpy.arange(len(arrays.edge_begin) - 1)
     lon, lat = from_mercator(box.middle)
     corners = [from_mercator((x, y)) for x in (box.left, box.right) for y in (box.top, box.bottom)]
@@ -135,8 +137,7 @@ def box_for(places: list[Point], is_picture: bool) -> Box:
     """The box around places, with a tenth of its greater side, and at least 200 metres, on each side: in a shape that suits
     a picture, or as wide as a window, with room to move the map, for a page."""
     box = box_of(to_mercator(places))
-    metre = 1 / (2 * math.pi * EARTH_RADIUS * math.cos(math.radians(places[0][1])))
-    box = box.grown(max(box.width, box.height) / 10 + 200 * metre)
+    box = box.grown(max(box.width, box.height) / 10 + 200 / box.metres)
     if is_picture:
         return box.shaped(0.56, 1.4)
     wide = box.shaped(0.5, 0.7)
@@ -156,15 +157,17 @@ def make_scene(
     path are another network's."""
     need_inside(arrays, routes, path)
     most = MAX_POINTS if is_picture else None
-    places = [] if is_whole else list(itertools.chain.from_iterable(route.places for route in routes))
-    if places:
+    places = list(itertools.chain.from_iterable(route.places for route in routes))
+    if places and not is_whole:
         box = box_for(places, is_picture)
         return box, read_roads(arrays, box, most, on_progress)
-    roads = read_roads(arrays, None, most, on_progress)
-    places = all_places(roads)
-    if not places:
+    if not len(arrays.arc_from):
         raise NetworkError("has no arcs", arrays.path)
-    return box_for(places, is_picture), roads
+    west, south, east, north = arrays.box
+    middle = (west + east) / 2
+    near = middle + 360 * round((places[0][0] - middle) / 360) if places else middle  # (on the routes' side of the world)
+    box = box_for([(west - middle + near, south), (east - middle + near, north)], is_picture)
+    return box, read_roads(arrays, None, most, on_progress, near)
 
 
 def need_inside(arrays: MappedNetwork, routes: list[DrawnRoute], path: str) -> None:

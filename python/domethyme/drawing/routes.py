@@ -123,8 +123,9 @@ def make_route(feature: Any, place: FeatureRef, label: str | None, colour: str) 
     if line is None:
         return DrawnRoute(name, CAPTION_OF_NONE, colour)
     metres = read_number(properties, "metres", place)
-    seconds = 0.0 if properties.get("seconds", 0.0) is None else read_number(properties, "seconds", place)
-    figures = kilometres(metres) if metres and not seconds else f"{kilometres(metres)}, {minutes(seconds)}"
+    figures = kilometres(metres)
+    if properties.get("seconds", 0.0) is not None:
+        figures += f", {minutes(read_number(properties, 'seconds', place))}"
     steps, line = read_steps(properties, place), unwrapped(line, line[0][0])
     line = line if len(line) > 1 else line * 2
     shown = [(street or NO_NAME, way_of(way)) for street, way in steps]
