@@ -21,7 +21,7 @@ import json
 
 from domethyme import Hierarchy
 from domethyme.atomic_files import atomic_write
-from domethyme.csv_tables import plain_float
+from domethyme.csv_tables import need_columns, plain_float
 from domethyme.limits import DEFAULT_DEVIATION
 from domethyme.network.tables import paths_of
 
@@ -49,6 +49,7 @@ def column(trips: Trips, name: str, missing: float | None) -> list[float] | None
     """The numbers of a column, None if there is none; an empty field is `missing`."""
     if name not in trips.columns:
         return None
+    need_columns(trips.path, trips.columns, [name])
     found = []
     for row, fields in zip(trips.rows, trips.fields):
         text = str(fields[trips.columns.index(name)]).strip()

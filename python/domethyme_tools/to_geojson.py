@@ -107,13 +107,13 @@ class Route(NamedTuple):
 
 
 @contextlib.contextmanager
-def open_trips(path: str | None) -> Iterator[tuple[list[str], Iterator[Trip]]]:
+def open_trips(path: str | None, required: Iterable[str] = ()) -> Iterator[tuple[list[str], Iterator[Trip]]]:
     """The columns and rows of the table of trips; without one each answer has a trip without fields. No column may have the
     name of a property of ours, but those of the pair."""
     if path is None:
         yield [], itertools.repeat((None, {}))
         return
-    with open_table(path, ()) as trips:
+    with open_table(path, required) as trips:
         for name in trips.columns:
             if name in (*FIGURES, STEPS, LINE):
                 raise ToolError(f"column {name} has the name of a property of the routes: rename it", path, 1)
@@ -222,10 +222,10 @@ def totals(seconds: list[float] | None, metres: list[float]) -> tuple[float | No
 
 def routes_between_places(options: argparse.Namespace, roads: RoadIndex) -> Iterator[Route]:
     """The routes between the places of TRIPS on roads."""
-    with open_trips(options.trips) as (_, trips):
+    sides = {"from_lon": 180, "from_lat": 90, "to_lon": 180, "to_lat": 90}
+    with open_trips(options.trips, sides) as (_, trips):
         rows = list(trips)
-    degrees = [[parse_float(fields.get(name, ""), name, options.trips, row, -most, most)
-                for name, most in (("from_lon", 180), ("from_lat", 90), ("to_lon", 180), ("to_lat", 90))] for row, fields in rows]
+    degrees = [[parse_float(fields[name], name, options.trips, row, -most, most) for name, most in sides.items()] for row, fields in rows]
     ends = [(row, (lon, lat), (to_lon, to_lat)) for (row, _), (lon, lat, to_lon, to_lat) in zip(rows, degrees)]
     routes = routes_on_roads(roads, options.answers, options.trips, ends)
     for (_, fields), route in zip(rows, routes, strict=True):
