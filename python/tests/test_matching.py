@@ -97,6 +97,7 @@ BESIDE = "lon,lat\n0.0003,0.0003\n0.0008,0.0003\n"
     ("lon,lat\n0,0\n", [], "two places or more"), ("lon,lat,seconds\n0,0,1\n0,0,x\n", [], "row 3: seconds 'x' is not a number"),
     ("lon,lat,seconds\n0,0,1\n0,0,\n", [], "row 3: seconds '' is not a number"),
     ("lon,lat,seconds\n0,0,2\n0,0,1\n", [], "don't fall"), ("lon,lat,deviation\n0,0,\n0,0,0\n", [], "above 0"),
+    *((f"lon,lat,{name},{name}\n0,0,1,5\n", [], f"has two columns {name}") for name in ("seconds", "deviation")),
 ])
 def test_tool(village, tmp_path, text, words, wanted):
     out = tmp_path / "out"
