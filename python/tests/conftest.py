@@ -20,6 +20,13 @@ def run(tmp_path):
     return run_program
 
 
+@pytest.fixture
+def write(tmp_path, monkeypatch):
+    """Writes a text file of the test's folder, in which the test runs."""
+    monkeypatch.chdir(tmp_path)
+    return lambda name, text: (tmp_path / name).write_text(text, encoding="utf-8")
+
+
 def pytest_configure(config):
     config.addinivalue_line("markers", "needs(program): without this program of tests/optional.txt the test is left out")
 

@@ -10,12 +10,14 @@ import itertools
 import math
 import os
 import pathlib
+import re
 import sys
 from collections.abc import Callable, Mapping, Sequence
 from typing import Any, NamedTuple
 from unittest import mock
 
 import numpy as np
+import pytest
 from hypothesis import HealthCheck, Phase, settings
 from hypothesis import strategies as st
 from model.network import Arc, Network, Node
@@ -221,6 +223,14 @@ def converted(folder: pathlib.Path, text: str, *words: object) -> tuple[str, Any
     (folder / "map.osm").write_text(text, encoding="utf-8")
     said = run_tool("osm_to_gr", folder / "map.osm", folder / "map", *words)[1]
     return said, domethyme.Network(folder / "map").arcs_frame()
+
+
+def assert_refused(name: str, *words: object, says: str, given: str = "") -> None:
+    """Wants an error of a tool in this process, with the text `says`, and the folder as it was; or status 2 where that is empty."""
+    before = {path: path.read_bytes() for path in pathlib.Path().rglob("*") if path.is_file()}
+    with pytest.raises(domethyme.DomethymeError if says else SystemExit, match=re.escape(says) or "^2$"):
+        run_tool(name, *words, given=given)
+    assert {path: path.read_bytes() for path in pathlib.Path().rglob("*") if path.is_file()} == before
 
 
 # Places and requests

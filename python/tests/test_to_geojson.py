@@ -2,7 +2,8 @@
 import csv
 import json
 
-from tool_case import ToolCase
+import pytest
+from draws import assert_refused, run_tool
 
 # From 2 to 3 the second arc is the lightest, and the first of two as light; 4 can't be reached.
 NODES = "node,osm,lon,lat\n1,11,0,0\n2,12,0.001,0\n3,13,0.002,0\n4,14,0.003,0\n"
@@ -17,7 +18,8 @@ from,to,weight,seconds,metres,osm,highway,name,WKT
 4,3,500,50.005,111.20,106,residential,"Mill ""Lane"" <&>","LINESTRING (0.003 0, 0.002 0)"
 """
 ANSWERS = "r 1 3 300 2 1 2 3\nr 4 2 1000 3 4 3 1 2\nn 1 4\nr 2 2 0 0 2\n"
-STREETS = [["High Street", 231.45, 30.003]], [['Mill "Lane" <&>', 111.2, 50.005], ["", 222.4, 40.004], ["High Street", 111.2, 10.001]]
+MILL = 'Mill "Lane" <&>'
+STREETS = [["High Street", 231.45, 30.003]], [[MILL, 111.2, 50.005], ["", 222.4, 40.004], ["High Street", 111.2, 10.001]]
 NAMES = ["from_node", "to_node", "length", "arcs", "seconds", "metres", "steps"]
 FORTH, BACK, NO_WAY, STAY = (
     dict(zip(NAMES, [*row, steps and [dict(zip(("name", "metres", "seconds"), step)) for step in steps]])) for row, steps in (
@@ -40,7 +42,6 @@ ANSWERS_REFUSED = [
     ("r 1 4 300 2 1 2 4", "leads from node 2 to node 4, where the network has no arc"),
     ("n 1 3", "says that no path leads from node 1 to node 3, and one does: is it of another network?"),
     ("n 4 4", "says that no path leads from node 4 to node 4"), ("r 5 5 0 0 5", "has node 5, and the network has 4 nodes"),
-    *((line, "") for line in ["", "n 1", "r 1 2", "x 1 2", "r 1 2 100 1 1 3", "r 1 2 100 2 1 2", "r 1 2 -1 1 1 2"]),
 ]
 TRIPS_REFUSED = [
     ("to_node\n3\n3\n4\n2\n", "trips.csv, row 3: has to_node '3' where the answer has 2"),
@@ -51,62 +52,57 @@ TRIPS_REFUSED = [
 ]
 
 
-class RoutesTests(ToolCase):
-    def setUp(self):
-        super().setUp()
-        for name, text in (("net.nodes.csv", NODES), ("net.arcs.csv", ARCS), ("trips.csv", TRIPS), ("answers", ANSWERS)):
-            self.write(name, text)
+@pytest.fixture(autouse=True)
+def files(write):
+    for name, text in (("net.nodes.csv", NODES), ("net.arcs.csv", ARCS), ("trips.csv", TRIPS), ("answers", ANSWERS)):
+        write(name, text)
 
-    def routes_of(self, answers, *words):
-        """What is printed for a text of answers."""
-        return self.run_tool("to_geojson", "net", "-", *words, given=answers).stdout
 
-    def test_output_formats(self):
-        text = self.routes_of(ANSWERS)
-        self.assertEqual(json.loads(text), {"type": "FeatureCollection", "features": FEATURES})
-        self.assertEqual([json.loads(line.rstrip(",")) for line in text.splitlines()[1:-1]], FEATURES)
-        self.assertEqual([*map(json.loads, self.routes_of(ANSWERS, "--format", "lines").splitlines())], FEATURES)
-        found = json.loads(self.routes_of("r 1 3 300 2 1 2 3\n", "--no-steps", "--format", "lines"))
-        self.assertEqual(found["properties"], {name: FORTH[name] for name in NAMES[:-1]})
-        wanted = "from_node,to_node,length,arcs,seconds,metres,WKT\n1,3,300,2,30.003,231.45,"
-        wanted += '"LINESTRING (0.0000000 0.0000000, 0.0010000 0.0000000, 0.0015000 0.0010000, 0.0020000 0.0000000)"\n1,4,,,,,\n'
-        self.assertEqual(self.routes_of("r 1 3 300 2 1 2 3\nn 1 4\n", "--format", "csv"), wanted)
+def routes_of(answers, *words):
+    return run_tool("to_geojson", "net", "-", *words, given=answers)[0]
 
-    def test_columns_of_trips(self):
-        lines = self.routes_of(ANSWERS, "--trips", "trips.csv", "--format", "lines").splitlines()
-        first, third = json.loads(lines[0])["properties"], json.loads(lines[2])["properties"]
-        self.assertEqual(list(first.items())[:3], [("trip", "007"), ("seats", "two, or three"), ("from_node", 1)])
-        self.assertEqual(third, {"trip": "third", "seats": "\u00e4", **NO_WAY})
-        rows = list(csv.reader(self.routes_of(ANSWERS, "--trips", "trips.csv", "--format", "csv").splitlines()))
-        self.assertEqual(rows[0], ["trip", "seats", *NAMES[:-1], "WKT"])
-        self.assertEqual((rows[1][:4], rows[3]), (["007", "two, or three", "1", "3"], ["third", "\u00e4", "1", "4", *[""] * 5]))
-        self.write("snapped.csv", "from_node,trip,to_node,to_metres\n1,a,3,2.5\n")
-        found = json.loads(self.routes_of("r 1 3 300 2 1 2 3\n", "--trips", "snapped.csv", "--format", "lines"))["properties"]
-        self.assertEqual(found, {"trip": "a", "to_metres": "2.5", **FORTH})
 
-    def test_refused_input_leaves_the_file(self):
-        """A file that is there stays."""
-        self.write("routes", "as it was\n")
-        words = ("net", "answers", "-o", "routes")
-        for trips, says in TRIPS_REFUSED:
-            self.write("trips.csv", trips)
-            self.assert_refused("to_geojson", *words, "--trips", "trips.csv", says=says)
-        self.assert_refused("to_geojson", *words, "--trips", "none", says="none: No such file")
-        for answer, says in ANSWERS_REFUSED:
-            self.write("answers", f"r 1 2 100 1 1 2\n{answer}\n")
-            self.assert_refused("to_geojson", *words, says=f"answers, row 2: {says}")
-        for form in ("collection", "lines", "csv"):
-            says = "to_geojson: standard input: has no answer"
-            self.assert_refused("to_geojson", "net", "-", "--format", form, "-o", "routes", given="", says=says)
-        self.write("answers", "r 1 2 100 1 1 2\n")
-        self.write("net.arcs.csv", ARCS.replace("(0.001 0, 0 0)", "(0.001 0)"))
-        says = "net.arcs.csv, row 3: WKT 'LINESTRING (0.001 0)' is no line"
-        self.assert_refused("to_geojson", "net", self.write("back", "r 2 1 100 1 2 1\n"), "-o", "routes", says=says)
-        self.write("net.arcs.csv", ARCS.replace("1,2,100", "1,2,light"))
-        self.assert_refused("to_geojson", "net", "answers", says="net.arcs.csv, row 2: weight 'light'")
-        self.assert_refused("to_geojson", "nowhere", "answers", says="nowhere.net: No such file")
+def test_output_formats():
+    text = routes_of(ANSWERS)
+    assert json.loads(text) == {"type": "FeatureCollection", "features": FEATURES}
+    assert [json.loads(line.rstrip(",")) for line in text.splitlines()[1:-1]] == FEATURES
+    assert [*map(json.loads, routes_of(ANSWERS, "--format", "lines").splitlines())] == FEATURES
+    found = json.loads(routes_of("r 1 3 300 2 1 2 3\n", "--no-steps", "--format", "lines"))
+    assert found["properties"] == {name: FORTH[name] for name in NAMES[:-1]}
+    wanted = "from_node,to_node,length,arcs,seconds,metres,WKT\n1,3,300,2,30.003,231.45,"
+    wanted += '"LINESTRING (0.0000000 0.0000000, 0.0010000 0.0000000, 0.0015000 0.0010000, 0.0020000 0.0000000)"\n1,4,,,,,\n'
+    assert routes_of("r 1 3 300 2 1 2 3\nn 1 4\n", "--format", "csv") == wanted
 
-    def test_arguments_that_are_refused(self):
-        for words in [[], ["net"], ["net", "-", "--format", "picture"]]:
-            self.assertEqual(self.run_tool("to_geojson", *words, status=2).stdout, "")
-        self.assertIn("--no-steps", self.run_tool("to_geojson", "--help").stdout)
+
+def test_columns_of_trips(write):
+    first, _, third, _ = routes_of(ANSWERS, "--trips", "trips.csv", "--format", "lines").splitlines()
+    assert list(json.loads(first)["properties"].items())[:3] == [("trip", "007"), ("seats", "two, or three"), ("from_node", 1)]
+    assert json.loads(third)["properties"] == {"trip": "third", "seats": "\u00e4", **NO_WAY}
+    rows = list(csv.reader(routes_of(ANSWERS, "--trips", "trips.csv", "--format", "csv").splitlines()))
+    assert (rows[0], rows[1][:4]) == (["trip", "seats", *NAMES[:-1], "WKT"], ["007", "two, or three", "1", "3"])
+    assert rows[3] == ["third", "\u00e4", "1", "4", *[""] * 5]
+    write("snapped.csv", "from_node,trip,to_node,to_metres,from_key\n1,a,3,2.5,k\n")
+    found = json.loads(routes_of("r 1 3 300 2 1 2 3\n", "--trips", "snapped.csv", "--format", "lines"))["properties"]
+    assert found == {"trip": "a", "to_metres": "2.5", "from_key": "k", **FORTH}
+
+
+def test_refused_input_leaves_the_file(write):
+    write("routes", "as it was\n")
+    words = ("to_geojson", "net", "answers", "-o", "routes")
+    for trips, says in TRIPS_REFUSED:
+        write("trips.csv", trips)
+        assert_refused(*words, "--trips", "trips.csv", says=says)
+    assert_refused(*words, "--trips", "none", says="none: No such file")
+    for answer, says in ANSWERS_REFUSED:
+        write("answers", f"r 1 2 100 1 1 2\n{answer}\n")
+        assert_refused(*words, says=f"answers, row 2: {says}")
+    for form in ("collection", "lines", "csv"):
+        assert_refused("to_geojson", "net", "-", "--format", form, "-o", "routes", says="standard input: has no answer")
+    write("answers", "r 2 1 100 1 2 1\n")
+    for old, new, says in (("0.001 0, 0 0)", "0.001 0)", "row 3: WKT 'LINESTRING (0.001 0)' is no line"),
+                           ("1,2,100", "1,2,light", "row 2: weight 'light'")):
+        write("net.arcs.csv", ARCS.replace(old, new))
+        assert_refused(*words, says=f"net.arcs.csv, {says}")
+    assert_refused("to_geojson", "nowhere", "answers", says="nowhere.net: No such file")
+    for words in ([], ["net"], ["net", "-", "--format", "picture"]):
+        assert_refused("to_geojson", *words, says="")
