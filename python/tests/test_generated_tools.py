@@ -7,7 +7,7 @@ import os
 import pathlib
 import subprocess
 import tempfile
-from collections.abc import Mapping
+from collections.abc import Collection, Mapping
 from typing import Any, NamedTuple
 
 import numpy as np
@@ -35,6 +35,7 @@ SOURCES = ["from_lon", "from_lat", "to_lon", "to_lat"]
 # Texts of a user's column: none that a program for sheets takes for a formula may be written as it is, unless it is a number.
 NUMBERS = ("", "-1", "+1.5e3")
 LABELS = (*NUMBERS, "depot", "=1+1", "+x", "-x", "@a", "'=x", "it's")
+Trips = list[tuple[Point, Point]]
 
 
 class Figures(NamedTuple):
@@ -51,26 +52,20 @@ class Figures(NamedTuple):
 def figures_of(row: Mapping[str, str], line: list[Point], unit: str) -> Figures | None:
     """Those of an arc along a line; None for a row that says too little. `unit` is `time` or `length`."""
     said = {name: text for name, text in row.items() if text}
-    has_weight, has_seconds = "weight" in said, bool({"seconds", "kmh"} & set(said))
+    has_weight, has_seconds, has_metres = "weight" in said, bool({"seconds", "kmh"} & set(said)), bool({"metres", "km"} & set(said))
     if unit == "time" and not has_weight and not has_seconds:
         return None
-    metres, has_metres = round(along(line)[-1], 2), bool({"metres", "km"} & set(said))
-    if has_metres:
-        metres = float(said["metres"]) if "metres" in said else 1000 * float(said["km"])
+    metres = 1000 * float(said["km"]) if "km" in said else round(along(line)[-1], 2)
+    metres = float(said.get("metres", metres))
     seconds = metres * 3.6 / float(said["kmh"]) if "kmh" in said else 0.0  # (the tool rounds them to the thousandth)
     seconds = float(said.get("seconds", seconds))
     weight = round(1000 * seconds if unit == "time" else 100 * metres)
     return Figures(int(said.get("weight", max(1, weight))), seconds, metres, has_weight, has_seconds, has_metres)
 
 
-def write_rows(path: pathlib.Path, columns: list[str], rows: Any) -> None:
+def write_rows(path: str, columns: list[str], rows: Any) -> None:
     with open(path, "w", newline="") as file:
         csv.writer(file).writerows([columns, *rows])
-
-
-def read_rows(path: pathlib.Path) -> list[list[str]]:
-    with open(path, newline="") as file:
-        return list(csv.reader(file))
 
 
 def routecli(*words: object, given: str = "") -> str:
@@ -86,16 +81,15 @@ def test_trips_and_tables(data: Any) -> None:
     trips = [tuple(data.draw(places(made.roads, 2))) for _ in range(data.draw(st.integers(1, 4)))]
     split = sorted({made.roads.arcs[arc].end for arc, _ in made.roads.forbidden})
     trips += [(made.roads.nodes[node].place,) * 2 for node in split[:2]]
-    with tempfile.TemporaryDirectory() as folder:
-        path = pathlib.Path(folder)
-        write_network(made, path / "net", "--attribution", "© the town")
-        labels = [data.draw(st.sampled_from(LABELS)) for _ in trips]
-        write_rows(path / "trips.csv", ["label", *SOURCES], ([label, *a, *b] for label, (a, b) in zip(labels, trips)))
+    with tempfile.TemporaryDirectory() as folder, contextlib.chdir(folder):
+        write_network(made, pathlib.Path("net"), "--attribution", "© the town")
+        labels, radius = [data.draw(st.sampled_from(LABELS)) for _ in trips], data.draw(st.sampled_from([1000, 1000, 40_000]))
+        write_rows("trips.csv", ["label", *SOURCES], ([label, *a, *b] for label, (a, b) in zip(labels, trips)))
         for name, end in (("sources", 0), ("targets", 1)):
-            write_rows(path / f"{name}.csv", ["lon", "lat"], (trip[end] for trip in trips))
-        check_between_nodes(made, path, trips, labels)
+            write_rows(f"{name}.csv", ["lon", "lat"], (trip[end] for trip in trips))
+        check_between_nodes(made, trips, labels, radius)
         with contextlib.suppress(Ambiguous):
-            check_on_roads(made.roads, path, trips)
+            check_on_roads(made.roads, trips, radius)
 
 
 def one_junction(network: Network, one: int, other: int) -> bool:
@@ -103,35 +97,45 @@ def one_junction(network: Network, one: int, other: int) -> bool:
     return one == other or bool(first.ends and last.ends) and (first.place, first.osm) == (last.place, last.osm)
 
 
-def check_between_nodes(made: Drawn, path: pathlib.Path, trips: list[tuple[Point, Point]], labels: list[str]) -> None:
-    """`nearest` and its `--snapped`, `table`, and `to_geojson` of what routecli answers."""
+def read_pairs(path: str) -> list[tuple[int, int]]:
+    lines = [line.split() for line in pathlib.Path(path).read_text().splitlines() if line[0] == "q"]
+    return [(int(line[1]) - 1, int(line[2]) - 1) for line in lines]
+
+
+def is_pair(network: Network, start: int, end: int, starts: Collection[int], ends: Collection[int]) -> bool:
+    """Whether a pair leads from the nearest node, one of `starts`, to one of `ends`; or stays at the junction where it begins."""
+    stays = {one_junction(network, start, each) for each in ends}
+    return start in starts and (end == start if stays == {True} else end in ends or True in stays and end == start)
+
+
+def check_between_nodes(made: Drawn, trips: Trips, labels: list[str], radius: float) -> None:
+    """`nearest` and its `--snapped` and `--matrix`, `table`, and `to_geojson` of what routecli answers."""
     network, has_keys = made.tables, made.has_keys
     near = [[network.nearest(place, side) for place, side in zip(trip, ("from", "to"))] for trip in trips]
-    skipped = {row for row, ends in enumerate(near) for _, metres in ends if metres > 1000}
+    skipped = {row for row, ends in enumerate(near) for _, metres in ends if metres > radius}
+    trip_words = "net", "trips.csv", "-o", "pairs", "--radius", radius
+    table_words = "net", "net.rch", "sources.csv", "targets.csv", "-o", "t.npy", "--radius", radius
     if skipped:
-        with pytest.raises(ToolError, match="nearest node"):
-            run_tool("nearest", path / "net", path / "trips.csv", "-o", path / "pairs")
-        with pytest.raises(ToolError, match="nearest node"):
-            run_tool("table", path / "net", path / "net.rch", path / "sources.csv", path / "targets.csv", "-o", path / "t.csv")
+        for tool, words in (("nearest", trip_words), ("table", table_words)):
+            with pytest.raises(ToolError, match="nearest node"):
+                run_tool(tool, *words)
         near, labels = ([each for row, each in enumerate(some) if row not in skipped] for some in (near, labels))
-    skip = ["--skip-far"] * bool(skipped)
-    run_tool("nearest", path / "net", path / "trips.csv", "-o", path / "pairs", "--snapped", path / "snapped.csv", *skip)
-    lines = [line.split() for line in (path / "pairs").read_text().splitlines() if line[0] == "q"]
-    pairs = [(int(line[1]) - 1, int(line[2]) - 1) for line in lines]
-    columns, *rows = read_rows(path / "snapped.csv")
+    run_tool("nearest", *trip_words, "--snapped", "snapped.csv", *["--skip-far"] * bool(skipped))
+    pairs = read_pairs("pairs")
+    columns, *rows = csv.reader(pathlib.Path("snapped.csv").read_text().splitlines())
     for (start, end), ((starts, away), (ends, end_away)), row, label in zip(pairs, near, rows, labels, strict=True):
-        stays = {one_junction(network, start, each) for each in ends}  # (at the junction where it begins)
-        assert start in starts and (end == start if stays == {True} else end in ends or True in stays and end == start)
+        assert is_pair(network, start, end, starts, ends)
         found = dict(zip(columns, row))
         assert found["label"].lstrip("'") == label.lstrip("'") and (found["label"][:1] not in "=+-@" or label in NUMBERS)
         assert (found["from_node"], found["to_node"]) == (str(start + 1), str(end + 1))
-        assert (found.get("from_key"), found.get("to_key")) == tuple(network.nodes[node].key if has_keys else None for node in (start, end))
+        keys = [network.nodes[node].key if has_keys else None for node in (start, end)]
+        assert [found.get("from_key"), found.get("to_key")] == keys
         assert abs(float(found["from_metres"]) - away) < 0.051 and abs(float(found["to_metres"]) - end_away) < 0.051
     if not pairs:
         return
-    (path / "answers").write_text(routecli("route", path / "net.rch", path / "pairs"))
-    run_tool("to_geojson", path / "net", path / "answers", "--trips", path / "snapped.csv", "-o", path / "routes")
-    routes = json.loads((path / "routes").read_text())
+    pathlib.Path("answers").write_text(routecli("route", "net.rch", "pairs"))
+    run_tool("to_geojson", "net", "answers", "--trips", "snapped.csv", "-o", "routes")
+    routes = json.loads(pathlib.Path("routes").read_text())
     assert routes["attribution"] == "© the town"
     for pair, feature in zip(pairs, routes["features"], strict=True):
         length = network.lengths({pair[0]: 0}).get(pair[1])
@@ -140,77 +144,69 @@ def check_between_nodes(made: Drawn, path: pathlib.Path, trips: list[tuple[Point
         assert feature["properties"]["length"] == length and (feature["geometry"] is None) == (length is None)
         assert (feature["properties"]["seconds"] is None) == (length is None or not network.has_seconds)
         assert length is None or feature["properties"]["arcs"] == network.fewest_arcs(*pair)
-        for name in ("seconds", "metres") if length is not None else ():
-            steps, whole = [step[name] for step in feature["properties"]["steps"]], feature["properties"][name]
-            assert steps == [None] * len(steps) if whole is None else abs(sum(steps) - whole) < 0.006 * (1 + len(steps))
         if length is not None:  # (an answer that there is no path is refused)
-            (path / "no_path").write_text(f"n {pair[0] + 1} {pair[1] + 1}\n")
+            for name in ("seconds", "metres"):
+                steps, whole = [step[name] for step in feature["properties"]["steps"]], feature["properties"][name]
+                assert steps == [None] * len(steps) if whole is None else abs(sum(steps) - whole) < 0.006 * (1 + len(steps))
+            pathlib.Path("no_path").write_text(f"n {pair[0] + 1} {pair[1] + 1}\n")
             with pytest.raises(ToolError, match="says that no path leads from"):
-                run_tool("to_geojson", path / "net", path / "no_path", "-o", path / "routes")
+                run_tool("to_geojson", "net", "no_path", "-o", "routes")
     if skipped:
         return
-    words = path / "sources.csv", path / "targets.csv", "-o", path / "t.npy", "--metres", path / "m.npy"
-    run_tool("table", path / "net", path / "net.rch", *words)
-    table, metres = np.load(path / "t.npy"), np.load(path / "m.npy")
+    run_tool("nearest", "net", "sources.csv", "--matrix", "-o", "matrix", "--radius", 1e9)
+    there = [network.nearest(place, "to")[0] for place, _ in trips]
+    for pair, (((starts, _), _), ends) in zip(read_pairs("matrix"), itertools.product(near, there), strict=True):
+        assert is_pair(network, *pair, starts, ends)
+    run_tool("table", *table_words, "--metres", "m.npy")
+    table, metres = np.load("t.npy"), np.load("m.npy")
+    with domethyme.Hierarchy("net.rch", network="net") as hierarchy:
+        ends = (hierarchy.nearest(*np.array(some).T, side, radius=radius)[0] for side, some in zip(("from", "to"), zip(*trips)))
+        sums = hierarchy.matrix(*ends, sums=["metres"])["metres"]
+    np.testing.assert_array_equal(metres, np.where(metres == 0, 0, sums))
     assert (np.isnan(metres) == (table < 0)).all()
     for (row, ((starts, _), _)), (column, (_, (ends, _))) in itertools.product(enumerate(near), enumerate(near)):
-        cells = {
-            0 if one_junction(network, start, end) else network.lengths({start: 0}).get(end, -1)
-            for start in starts for end in ends
-        }
-        assert table[row, column] in cells
-        assert metres[row, column] == 0 or not all(one_junction(network, start, end) for start in starts for end in ends)
+        stays = {(start, end): one_junction(network, start, end) for start in starts for end in ends}
+        assert table[row, column] in {0 if stays[pair] else network.lengths({pair[0]: 0}).get(pair[1], -1) for pair in stays}
+        assert metres[row, column] == 0 or not all(stays.values())
 
 
-def check_on_roads(roads: Network, path: pathlib.Path, trips: list[tuple[Point, Point]]) -> None:
+def check_on_roads(roads: Network, trips: Trips, radius: float) -> None:
     """`nearest --on-roads`, `to_geojson --on-roads` of what routecli replies, and `table --on-roads`."""
-    points = [[roads.snap(place, 1000.0) for place in trip] for trip in trips]
-    words = path / "net", path / "trips.csv", "--on-roads", "-o", path / "lines"
+    points = [[roads.snap(place, radius) for place in trip] for trip in trips]
+    words = "net", "trips.csv", "--on-roads", "-o", "lines", "--radius", radius
     if None in itertools.chain(*points):
         with pytest.raises(ToolError, match="nearest road"):
             run_tool("nearest", *words)
         return
     run_tool("nearest", *words)
-    (path / "replies").write_text(routecli("serve", path / "net.rch", given=(path / "lines").read_text()))
-    run_tool(
-        "to_geojson", path / "net", path / "replies", "--trips", path / "trips.csv", "--on-roads", "-o", path / "on_roads"
-    )
-    routes = json.loads((path / "on_roads").read_text())
+    pathlib.Path("replies").write_text(routecli("serve", "net.rch", given=pathlib.Path("lines").read_text()))
+    run_tool("to_geojson", "net", "replies", "--trips", "trips.csv", "--on-roads", "-o", "on_roads")
+    routes = json.loads(pathlib.Path("on_roads").read_text())
     assert routes["attribution"] == "© the town"
     for (start, end), feature in zip(points, routes["features"], strict=True):
-        assert start and end and is_feature(roads, feature, start, end), (feature, start, end)
-    run_tool(
-        "table", path / "net", path / "net.rch", path / "sources.csv", path / "targets.csv", "--on-roads", "-o", path / "on.csv"
-    )
-    cells = [row[1:] for row in read_rows(path / "on.csv")[1:]]
+        assert any(is_leg(roads, feature, start, leg, end) for leg in roads.legs(start, end) or [None]), (feature, start, end)
+    words = "net", "net.rch", "sources.csv", "targets.csv", "--on-roads", "--radius", radius
+    run_tool("table", *words, "-o", "on.csv", "--metres", "m.npy")
+    with domethyme.Hierarchy("net.rch", network="net") as hierarchy:
+        sums = hierarchy.table(*zip(*trips), radius=radius, sums=["metres"])
+    np.testing.assert_array_equal(np.load("m.npy"), sums["metres"])
+    cells = [line.split(",")[1:] for line in pathlib.Path("on.csv").read_text().splitlines()[1:]]
     for (row, (start, _)), (column, (_, end)) in itertools.product(enumerate(points), enumerate(points)):
-        assert start and end and cells[row][column] == str(weight_of(roads, start, end)), cells
+        legs = roads.legs(start, end)
+        assert cells[row][column] == (str(sum(part[3] for part in legs[0])) if legs else ""), cells
 
 
-def weight_of(roads: Network, start: SnappedPoint, end: SnappedPoint) -> int | str:
-    legs = roads.legs(start, end)
-    return sum(part[3] for part in legs[0]) if legs else ""
-
-
-def is_feature(roads: Network, feature: Any, start: SnappedPoint, end: SnappedPoint) -> bool:
-    """Whether a route between places on roads is one of the shortest legs."""
-    legs = roads.legs(start, end)
-    if not legs:
-        return feature["geometry"] is None and feature["properties"]["length"] is None
-    return any(is_leg(roads, feature, start, leg, end) for leg in legs)
-
-
-def is_leg(roads: Network, feature: Any, start: SnappedPoint, leg: list[Part], end: SnappedPoint) -> bool:
-    total, found, geometry = figures(roads, leg), feature["properties"], feature["geometry"]
-    expected = {
-        "length": sum(part[3] for part in leg), "arcs": len(leg), "seconds": total["duration"], "metres": total["distance"]
-    }
-    if difference({name: found[name] for name in expected}, expected) or geometry is None:
-        return False
+def is_leg(roads: Network, feature: Any, start: SnappedPoint, leg: list[Part] | None, end: SnappedPoint) -> bool:
+    """Whether a route between places on roads is this leg, or there is none."""
+    found, geometry = feature["properties"], feature["geometry"]
+    if leg is None:
+        return geometry is None and found["length"] is None
+    total = figures(roads, leg)
     names = [name for name, _ in itertools.groupby(roads.arcs[arc].name for arc, *_ in leg)]
-    if [step["name"] for step in found["steps"]] != names:
+    expected = {"length": sum(part[3] for part in leg), "arcs": len(leg), "seconds": total["duration"], "metres": total["distance"]}
+    if difference({name: found[name] for name in expected}, expected) or [step["name"] for step in found["steps"]] != names:
         return False
-    return has_line(geometry, leg_line(roads, start, leg, end))
+    return geometry is not None and has_line(geometry, leg_line(roads, start, leg, end))
 
 
 def has_line(geometry: Any, points: list[Point]) -> bool:
@@ -228,25 +224,24 @@ def test_reach(data: Any) -> None:
     edges = [edge for number, edge in enumerate(made.roads.edges) if not made.roads.is_ferry(number)]
     assume(edges and made.roads.unit != "weight")
     steps = [step for edge in edges for step in itertools.pairwise(edge.line)]
-    where = data.draw(places(made.roads, 2))
-    where = [place for place in where if min(nearest_on_segment(place, *step) for step in steps)[0] < 900]
+    drawn_places = data.draw(places(made.roads, 2))
+    where = [place for place in drawn_places if min(nearest_on_segment(place, *step) for step in steps)[0] < 900]
     assume(where)
-    shape = data.draw(st.sampled_from(["polygons", "lines", "roads"]))
+    shape, towards = data.draw(st.sampled_from(["polygons", "lines", "roads"])), data.draw(st.booleans())
     option, limits = ("minutes", [0.05, 0.5]) if made.roads.unit == "duration" else ("metres", [50, 200])
-    with tempfile.TemporaryDirectory() as folder:
-        path = pathlib.Path(folder)
-        write_network(made, path / "net", "--attribution", "© the town")
-        write_rows(path / "places.csv", ["lon", "lat"], where)
+    with tempfile.TemporaryDirectory() as folder, contextlib.chdir(folder):
+        write_network(made, pathlib.Path("net"), "--attribution", "© the town")
+        write_rows("places.csv", ["lon", "lat"], where)
         style: dict[str, Any] = data.draw(st.fixed_dictionaries({}, optional={
             "generalize": st.sampled_from([0, 5, 20]), "denoise": st.sampled_from([0, 0.1, 0.5, 1]),
             "colors": st.just(["ff0000", "00ff00"]), "radius": st.sampled_from([950, 2000])}))
         options = {name: ",".join(value) if name == "colors" else value for name, value in style.items()}
-        words = f"--{option}", ",".join(map(str, limits)), "--shape", shape, "-o", path / "out", *itertools.chain(
-            *((f"--{name}", value) for name, value in options.items()))
-        run_tool("reach", path / "net", path / "net.rch", path / "places.csv", *words)
-        hierarchy = domethyme.Hierarchy(path / "net.rch", network=path / "net")
-        expected = hierarchy.within(where, shape=shape, **style, **{option: limits})
-        found = json.loads((path / "out").read_text())
+        options |= {"shape": shape, option: ",".join(map(str, limits))}
+        more = itertools.chain(*((f"--{name}", value) for name, value in options.items()))
+        run_tool("reach", "net", "net.rch", "places.csv", "-o", "out", *more, *["--towards"] * towards)
+        with domethyme.Hierarchy("net.rch", network="net") as hierarchy:
+            expected = hierarchy.within(where, shape=shape, towards=towards, **style, **{option: limits})
+        found = json.loads(pathlib.Path("out").read_text())
         assert found == json.loads(json.dumps(expected))
         assert [repr(each["properties"]["contour"]) for each in found["features"]] == [*map(repr, limits[::-1])]
         assert expected["attribution"] == "© the town"
@@ -264,31 +259,31 @@ def test_match(data: Any) -> None:
     query = {"radiuses": ";".join(each or common for each in own), "timestamps": ";".join(map(str, times))}
     query |= {"tidy": "true"} if words["--tidy"] else {}
     request = Request("match", trace, query | ({"gaps": "ignore"} if words["--ignore-gaps"] else {}))
-    with tempfile.TemporaryDirectory() as folder:
-        path = pathlib.Path(folder)
-        write_network(made, path / "net")
-        rows = ([lon, deviation, lat, *time] for (lon, lat), deviation, *time in zip(trace, own, *([times] if times else [])))
-        write_rows(path / "trace.csv", ["lon", "deviation", "lat", *(["seconds"] if times else [])], rows)
+    with tempfile.TemporaryDirectory() as folder, contextlib.chdir(folder):
+        write_network(made, pathlib.Path("net"))
+        rows = [[lon, deviation, lat, *time] for (lon, lat), deviation, *time in zip(trace, own, *([times] if times else []))]
+        rows.insert(empty := data.draw(st.integers(0, len(trace))), [])
+        write_rows("trace.csv", ["lon", "deviation", "lat", *(["seconds"] if times else [])], rows)
         more = [*(["--deviation", common] if common else []), *(word for word in words if words[word])]
-        run_tool("match", path / "net", path / "net.rch", path / "trace.csv", "-o", path / "out", *more)
-        features = json.loads((path / "out").read_text())["features"]
+        run_tool("match", "net", "net.rch", "trace.csv", "-o", "out", *more)
+        features = json.loads(pathlib.Path("out").read_text())["features"]
     with contextlib.suppress(Ambiguous):
         wanted = matching.ways(made.roads, request)
         assert len(features) == len(wanted), (features, wanted)
         for feature, options in zip(features, wanted):
-            assert any(is_way(made.roads, feature, way) for way in options), (feature, options)
+            assert any(is_way(made.roads, feature, way, empty) for way in options), (feature, options)
 
 
-def is_way(roads: Network, feature: Any, way: matching.Way) -> bool:
+def is_way(roads: Network, feature: Any, way: matching.Way, empty: int) -> bool:
+    """Whether a feature is a way, of a trace with an empty row before one of that number."""
     found, total = feature["properties"], figures(roads, *way.legs)
     expected = {
         "weight": sum(part[3] for leg in way.legs for part in leg), "seconds": total["duration"], "metres": total["distance"],
-        "confidence": Near(way.confidence, 0.0015), "rows": [number + 2 for number in way.numbers]
+        "confidence": Near(way.confidence, 0.0015), "rows": [number + 2 + (number >= empty) for number in way.numbers]
     }
     steps = zip(itertools.pairwise(way.places), way.legs)
-    return not difference(found, expected) and has_line(feature["geometry"], [
-        point for (start, end), leg in steps for point in leg_line(roads, start, leg, end)
-    ])
+    line = [point for (start, end), leg in steps for point in leg_line(roads, start, leg, end)]
+    return not difference(found, expected) and has_line(feature["geometry"], line)
 
 
 @st.composite
@@ -320,28 +315,25 @@ def test_own_tables(data: Any) -> None:
     lines = [[points[int(row["from"]) - 1], *some, points[int(row["to"]) - 1]] for row, some in zip(rows, inner)]
     for row, some, line in zip(rows, inner, lines):
         row |= {"WKT": wkt(line).replace(*data.draw(st.sampled_from(forms))) if some else ""} if any(inner) else {}
-    made = [*zip(rows, lines)]
+    made, expected = [*zip(rows, lines)], []
     made += data.draw(st.lists(st.sampled_from(made), max_size=2))
-    expected = []
     for number, (row, line) in enumerate(made, 2):
         for step in DIRECTIONS[row.get("oneway", "1")]:
             start, end = [int(row["from"]) - 1, int(row["to"]) - 1][::step]
             expected.append(OwnArc(start, end, figures_of(row, line[::step], unit), line[::step], number, row))
     refused = sorted({arc.row for arc in expected if arc.figures is None})
-    with tempfile.TemporaryDirectory() as folder:
-        path = pathlib.Path(folder)
-        write_rows(path / "nodes.csv", ["lon", "lat"], [(f"{lon:.7f}", f"{lat:.7f}") for lon, lat in points])
-        write_rows(path / "arcs.csv", [other.get(name, name) for name in rows[0]], (list(row.values()) for row, _ in made))
-        words = path / "nodes.csv", path / "arcs.csv", path / "net", "--weight", unit
+    with tempfile.TemporaryDirectory() as folder, contextlib.chdir(folder):
+        write_rows("nodes.csv", ["lon", "lat"], [(f"{lon:.7f}", f"{lat:.7f}") for lon, lat in points])
+        write_rows("arcs.csv", [other.get(name, name) for name in rows[0]], (list(row.values()) for row, _ in made))
+        words = "nodes.csv", "arcs.csv", "net", "--weight", unit
         if refused:
-            rest = len(refused) - 1
-            more = {0: "", 1: "; another row is refused too"}.get(rest, f"; {rest} other rows are refused too")
+            more = {1: "", 2: "; another row is refused too"}.get(len(refused), f"; {len(refused) - 1} other rows are refused too")
             with pytest.raises(domethyme.NetworkError, match=f"row {refused[0]}: has none of weight, seconds and kmh[^;]*{more}$"):
                 run_tool("to_network", *words)
             return
         said = run_tool("to_network", *words)[1]
-        arcs = domethyme.Network(path / "net").arcs_frame()
-        graph = [tuple(map(int, line.split()[1:])) for line in (path / "net.gr").read_text().splitlines() if line[0] == "a"]
+        arcs = domethyme.Network("net").arcs_frame()
+        graph = [tuple(map(int, line.split()[1:])) for line in pathlib.Path("net.gr").read_text().splitlines() if line[0] == "a"]
     found = [tuple(row) for row in arcs[["from", "to", "weight", "seconds", "metres", "WKT"]].itertuples(index=False)]
     assert graph == [(start + 1, end + 1, weight) for start, end, weight, *_ in found]
     for (start, end, weight, seconds, metres, line), arc in zip(found, expected, strict=True):
@@ -368,8 +360,7 @@ def wkt(line: list[Point]) -> str:
 
 
 def check_doubts(said: str, arcs: list[OwnArc], unit: str) -> None:
-    """A column that some rows alone have is doubted: their weights, or seconds, are of another kind. So are figures that no road
-    has, roads of one way alone, and rows that are there twice."""
+    """Columns that some rows alone have are doubted, figures that no road has, roads of one way alone, and rows that come twice."""
     figures = [arc.figures for arc in arcs]
     straight = [(arc.figures.metres, along([arc.line[0], arc.line[-1]])[-1]) for arc in arcs if arc.figures.has_metres]
     ends = {(arc.start, arc.end) for arc in arcs if arc.start != arc.end}
