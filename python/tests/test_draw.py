@@ -1,7 +1,7 @@
-"""Tests of draw and of geometry.py: three streets on the equator by hand, where a thousandth of a degree is 111.195 m both
-ways and the map's plane is even."""
+"""Tests of draw: three streets on the equator by hand, where a thousandth of a degree is 111.195 m both ways."""
 import base64
 import hashlib
+import html
 import itertools
 import json
 import math
@@ -36,6 +36,10 @@ def route(label, line, metres=444.78, seconds=90, steps=()):
     return {"type": "Feature", "properties": properties, "geometry": {"type": "LineString", "coordinates": line}}
 
 
+def area(label, rings, **properties):
+    return {"type": "Feature", "properties": {"trip": label, **properties}, "geometry": {"type": "Polygon", "coordinates": rings}}
+
+
 STEPS = [{"name": "<High> Street", "metres": 222.39, "seconds": 40}, {"name": "", "metres": 222.39, "seconds": 50}]
 EAST = route(LABEL, [[0, 0], [0.001, 0], [0.002, 0], [0.004, 0]], steps=STEPS)
 WEST = route("west", [[0.002, 0], [0.001, 0], [0, 0]], metres=12345, seconds=7384)
@@ -51,27 +55,25 @@ REFUSED = [
     (route("a", ACROSS, steps=[{"name": "A"}]), "has no number metres"), (route("a", ACROSS, metres="far"), "has no number metres"),
     (route("a", ACROSS, metres=-1), "has no number metres"), (route("a", ACROSS, seconds=10**400), "has no number seconds"),
     (route("a", ACROSS, steps=["High Street"]), "has no list of steps"),
+    ({**EAST, "geometry": {"type": "Polygon", "coordinates": [[[0, 0], [0.001, 0], [0, 0]]]}}, "has no polygon of places"),
 ]
 
 
-def told(legend_or_title):
-    return "".join(legend_or_title.itertext())
-
-
-def legend_of(picture):
-    return [told(text) for text in picture.findall("./g[@transform]/text")]
+def texts_at(picture, path="./g[@transform]/text"):
+    return ["".join(element.itertext()) for element in picture.findall(path)]
 
 
 def size_of(picture):
     return picture.get("width"), picture.get("height")
 
 
-def line_of(picture):
-    return picture.find("./g[@clip-path]/g/path").get("d")
+def lines_at(picture, path="./g[@clip-path]/g/path"):
+    """Those of routes, or of other paths."""
+    return [path.get("d") for path in picture.findall(path)]
 
 
 def arrows_of(picture):
-    return [path.get("d") for path in picture.findall("./g[@clip-path]/path[@fill]")]
+    return lines_at(picture, "./g[@clip-path]/path[@fill]")
 
 
 def roads_in(picture, what=lambda path: path.get("d").count("M")):
@@ -80,7 +82,7 @@ def roads_in(picture, what=lambda path: path.get("d").count("M")):
     return {path.get("stroke-width"): what(path) for path in paths if path.get("stroke") != "#fff"}
 
 
-class DrawCase(ToolCase):
+class Draw(ToolCase):
     def setUp(self):
         super().setUp()
         self.network(NODES, ARCS)
@@ -91,8 +93,7 @@ class DrawCase(ToolCase):
 
     def widen(self):
         """Has a road lead on in the north, so that the network has room for routes from corner to corner."""
-        road = '5,6,1,1,889.56,104,residential,Far Road,"LINESTRING (0.004 0.02, 0.012 0.02)"\n'
-        self.network(f"{NODES}6,,0.012,0.02\n", f"{ARCS}{road}")
+        self.network(f"{NODES}6,,0.012,0.02\n", f'{ARCS}5,6,1,1,9,104,residential,,"LINESTRING (0.004 0.02, 0.012 0.02)"\n')
 
     def drawn(self, name, *features, words=("--label", "trip"), network="net", text=""):
         """The text of a picture or page of the features, or of a text of routes."""
@@ -105,7 +106,6 @@ class DrawCase(ToolCase):
         return xml.fromstring(self.drawn("out.svg", *features, **more).replace(' xmlns="http://www.w3.org/2000/svg"', ""))
 
     def page_of(self, *features, **more):
-        """The text of a page of the features, and what its script is given."""
         text = self.drawn("out.html", *features, **more)
         return text, json.loads(re.search(r'<script type="application/json" id="data">\n(.*)\n</script>', text)[1])
 
@@ -116,26 +116,27 @@ class DrawCase(ToolCase):
             self.drawn("out.svg", *features, **more)
         assert re.search(says, str(caught.value)) and (self.folder / "out.svg").read_text() == "as it was\n", str(caught.value)
 
-
-class Picture(DrawCase):
     def test_pixels_of_places(self):
-        """A route is 0.004 degrees wide, and 200 m are 0.0017986: with a tenth and that on each side 0.0083973 in 1000 pixels. The
-        height is 0.56 of that, and the equator in its middle. At 60 degrees 200 m are 0.0035973 degrees of longitude, and at the
-        pole, which is drawn at 85.05 degrees, 0.020845."""
+        """A route of 0.004 degrees, with a tenth and 200 m, 0.0017986, on each side, in 1000 pixels; the height is 0.56 of that. At
+        60 degrees 200 m are 0.0035973 degrees of longitude, and at the pole, which is drawn at 85.05 degrees, 0.020845."""
         picture = self.picture_of(EAST, words=[])
         ring, dot = picture.findall("./g[@clip-path]/circle")
         assert [circle.get(axis) for circle in (ring, dot) for axis in ("cx", "cy")] == ["261.8", "280.0", "738.2", "280.0"]
-        assert (size_of(picture), ring.get("fill"), ring.get("stroke")) == (("1000", "560"), "#fff", dot.get("fill"))
-        assert line_of(picture) == "M261.8 280l119.1 0 119.1 0 238.2 0"
-        assert picture.find("./g[@clip-path]/g/path").get("stroke") == dot.get("fill")
+        assert (size_of(picture), lines_at(picture)[0]) == (("1000", "560"), "M261.8 280l119.1 0 119.1 0 238.2 0")
+        strokes = ring.get("stroke"), picture.find("./g[@clip-path]/g/path").get("stroke")
+        assert (ring.get("fill"), *strokes) == ("#fff", dot.get("fill"), dot.get("fill"))
         picture = self.picture_of(route("n", [[0, 0], [0, 0.004]]))
-        assert (size_of(picture), line_of(picture)) == (("714", "1000"), "M357 737.9l0 -476.2")
+        assert (size_of(picture), lines_at(picture)[0]) == (("714", "1000"), "M357 737.9l0 -476.2")
+        # The legend is below the map, 280 pixels high, with a margin: a row of 24, and 14. Roads are narrower, at most by a half.
+        for width, size, widths in ((500, ("500", "332"), {"1.5": 1, "2.5": 1}), (200, ("200", "182"), {"0.9": 1, "1.5": 1})):
+            picture = self.picture_of(EAST, words=["--width", width])
+            assert (size_of(picture), roads_in(picture)) == (size, widths)
         for lat, far, line, bar, widths in ((60, 60.02, "M333.3 333.3l333.4 0", "150.0", {"1.8": 1, "3": 1}),
                                             (-90, -89.98, "M457 457l86 0", "112.1", {"1.2": 1, "1.8": 1, "3": 1})):
             nodes, arcs = NODES.replace(",0\n", f",{lat}\n").replace(",0.02\n", f",{far}\n"), ARCS.replace(" 0,", f" {lat},")
             self.network(nodes, arcs.replace(" 0)", f" {lat})").replace(" 0.02", f" {far}"))
             picture = self.picture_of(route("n", [[0, lat], [0.004, lat]]))
-            assert (line_of(picture), roads_in(picture)) == (line, widths)
+            assert (lines_at(picture)[0], roads_in(picture)) == (line, widths)
             assert f"h{bar}v" in picture.findall("path")[-1].get("d")  # (100 m, of 0.66687 m in a pixel, and 50 of 0.44600)
 
     def test_at_the_180th_meridian(self):
@@ -151,17 +152,16 @@ class Picture(DrawCase):
             nodes = re.sub(",,([^,]*)", lambda found: f",,{lon(found[1])}", NODES)
             self.network(nodes, re.sub("([0-9.]+) (?=[0-9])", lambda found: f"{lon(found[1])} ", ARCS))
             line = [[lon(east), north] for east, north in ((0.004, 0), (0.002, 0), (0, 0))]
-            area = {"type": "Polygon", "coordinates": [[[lon(east), north] for east, north in ACROSS]]}
-            parts = {"type": "MultiPolygon", "coordinates": [[[place, *line[1:], place]] for place in line]}
-            features = [{**EAST, "geometry": geometry} for geometry in (route("", line)["geometry"], area, parts)]
-            kinds = itertools.product((features, features[1:]), ([], ["--full-network"]))
+            ring = [[lon(east), north] for east, north in ACROSS]
+            features = [route("a", line), route("b", line[::-1]), area("c", [ring]), area("d", [ring[:4] + ring[:1], ring])]
+            far = route("", [[lon(0), 0.02], [lon(0.0001), 0.02]])
+            kinds = itertools.product((features, features[2:], [far]), ([], ["--full-network"]))
             drawn = [self.drawn("out.svg", *some, words=words) for some, words in kinds]
             pictures.append([re.sub(r'M([\d.]+) ([\d.]+)l-([\d.]+) 0"', eastward, text) for text in drawn])
         assert pictures[0] == pictures[1]
 
     def test_arrows(self):
-        """476.4 pixels long: at 65, 195, 325 and 455 pixels from the ring, of which the last one lies far enough from the dot. A
-        route of 71 pixels has none, as that at 65 would lie below its dot."""
+        """At 65, 195, 325 and 455 of 476.4 pixels. A route of 71 pixels has none, as that at 65 would lie below its dot."""
         [arrows] = arrows_of(self.picture_of(EAST))
         assert arrows.startswith("M333.8 280.0L321.8 286.0L321.8 274.0Z") and arrows.count("Z") == 4
         [back] = arrows_of(self.picture_of(route("back", [[0.004, 0], [0, 0]])))
@@ -171,22 +171,10 @@ class Picture(DrawCase):
             assert len(arrows_of(self.picture_of(*features))) == count
         # Points that are less than 1.5 pixels from the one before are drawn where routes have arrows.
         for count, line in ((18, "l0.6 0 70.9 0"), (20, "l71.5 0")):
-            drawn = self.picture_of(EAST, *[short] * count).findall("./g[@clip-path]/g/path")[-1].get("d")
-            assert drawn.endswith(line), drawn
-        bent = [(0, 0), (1, 0), (2, 0), (2, 9), (9, 9)]
-        assert picture.spaced(bent, 1.5) == [(0, 0), (2, 0), (2, 9), (9, 9)]
-
-    def test_a_narrow_picture(self):
-        """The legend is below the map, 280 pixels high, with a margin below: a row of 24, and 14. Roads are narrower by a sixth,
-        and not by more than a half."""
-        picture = self.picture_of(EAST, words=["--width", "500"])
-        assert (size_of(picture), roads_in(picture)) == (("500", "332"), {"1.5": 1, "2.5": 1})
-        assert picture.find("./g[@clip-path]/circle").get("cx") == "130.9"
-        assert roads_in(self.picture_of(EAST, words=["--width", "200"])) == {"0.9": 1, "1.5": 1}
+            assert lines_at(self.picture_of(EAST, *[short] * count))[-1].endswith(line)
 
     def test_roads(self):
-        """The least important are below, and left out first where there are too many points. The most important stay, and the
-        picture is of all the network also then."""
+        """The least important are below, and left out first. The most important stay, in a picture of all the network."""
         assert roads_in(self.picture_of(EAST)) == {"1.8": 1, "3": 1}
         whole = roads_in(self.picture_of(NO_WAY))
         assert [*whole.items()] == [("1.2", 1), ("1.8", 1), ("3", 1)]
@@ -195,55 +183,54 @@ class Picture(DrawCase):
                 shown = self.picture_of(EAST, words=["--full-network"])
                 assert roads_in(shown) == {each: 1 for each in whole if each >= width} and size_of(shown) == ("714", "1052")
                 assert [len(kind["lines"]) for kind in self.page_of(NO_WAY)[1]["roads"]] == [1, 1, 0, 1, 0]
-        widths = {"motorway": "3.6", "trunk_link": "3.6", "secondary": "2.4", "tertiary_link": "1.8", "path": "1.2"}
-        for highway, width in widths.items():
-            self.write("net.arcs.csv", ARCS.replace("tertiary", "primary").replace("primary_link", highway))
+        arcs = ARCS + ARCS.splitlines(keepends=True)[1].replace("101", "109")  # (a road in the same place is drawn once)
+        for highway, width in zip("motorway trunk_link secondary tertiary_link path".split(), "3.6 3.6 2.4 1.8 1.2".split()):
+            self.network(NODES, arcs.replace("tertiary", "primary").replace("primary_link", highway))
             assert roads_in(self.picture_of(EAST)) == {"3": 1, width: 1}
+        # Tunnels are dashed, and below the others.
+        self.network(NODES, ARCS.replace(",WKT", ",structure,WKT").replace(',"LINE', ',,"LINE').replace("Slip,,", "Slip,tunnel,"))
+        dashes = roads_in(self.picture_of(EAST), lambda path: path.get("stroke-dasharray"))
+        assert [*dashes.items()] == [("3", "5 4"), ("1.8", None)]
+        assert [kind["dashes"] for kind in self.page_of(EAST)[1]["roads"]] == [None] * 5 + ["5 4"]
 
     def test_legend_and_titles(self):
         drawn = self.picture_of(EAST, WEST, NO_WAY)
-        assert legend_of(drawn) == [LABEL, "0.44 km, 1.5 min", "west", "12.3 km, 2 h 3 min", "nowhere", "no path"]
-        titles = [told(title) for title in drawn.findall("./g/g/title")]
-        assert titles[0] == f"{LABEL}: 0.44 km, 1.5 min\n<High> Street, 222 m\nunnamed road, 222 m"
+        assert texts_at(drawn) == [LABEL, "0.44 km, 1.5 min", "west", "12.3 km, 2 h 3 min", "nowhere", "no path"]
+        assert texts_at(drawn, "./g/g/title")[0] == f"{LABEL}: 0.44 km, 1.5 min\n<High> Street, 222 m\nunnamed road, 222 m"
         assert len(drawn.findall("./g[@transform]/circle")) == 4
-        assert legend_of(self.picture_of(EAST, WEST, words=[]))[::2] == ["route 1", "route 2"]
-        for label, shown in ((7, "7"), ("x" * 48, "x" * 48), ("x" * 49, "x" * 47 + "…"), ("a\x00b\ud800", "a\ufffdb\ufffd")):
-            assert legend_of(self.picture_of(route(label, [[0, 0], [0.004, 0]])))[0] == shown
+        assert texts_at(self.picture_of(EAST, WEST, words=[]))[::2] == ["route 1", "route 2"]
+        for label, shown in ((0, "0"), ("x" * 48, "x" * 48), ("x" * 49, "x" * 47 + "…"), ("a\x00b\ud800", "a\ufffdb\ufffd")):
+            assert texts_at(self.picture_of(route(label, [[0, 0], [0.004, 0]])))[0] == shown
         for seconds, figures in ((0, "0.00 km, 0.0 min"), (None, "0.00 km")):
             drawn = self.picture_of(route("stay", [[0, 0], [0, 0]], 0, seconds))
-            assert line_of(drawn).endswith("l0 0") and legend_of(drawn)[1] == figures
+            assert lines_at(drawn)[0].endswith("l0 0") and texts_at(drawn)[1] == figures
 
     def test_long_legend(self):
-        """Without a line the whole network is shown, as high as it is wide. Three fifths of 1000 pixels are 25 rows of 24. Below
-        the map, where a route would be hidden, there is room for 40 rows."""
+        """Three fifths of 1000 pixels are 25 rows of 24. Below the map, where a route would be hidden, there is room for 40."""
         self.widen()
         for feature, count, rows, last in ((NO_WAY, 40, 25, "and 16 more"), (route("", ACROSS), 20, 20, "route 20"),
                                            (route("", ACROSS), 60, 40, "and 21 more")):
-            texts = legend_of(self.picture_of(*[feature] * count, words=[]))
+            texts = texts_at(self.picture_of(*[feature] * count, words=[]))
             assert (len(texts), texts[-2]) == (2 * rows, last)
 
     def test_the_legend_hides_no_route_and_is_in_the_picture(self):
+        """Its texts are in it, at 7.8 and 8.8 pixels a letter, and no end of a route is below it."""
         self.widen()
-        for label in ("a", "a label that is rather long for any of them", LABEL):
-            for width in (200, 300, 500, 1000):
-                for line in (ACROSS, [[0, 0], [0.004, 0]], [[0, 0], [0, 0.004], [0.004, 0.004], [0.004, 0]]):
-                    with self.subTest(label=label, width=width, line=line):
-                        self.look_at_legend(self.picture_of(route(label, line), words=["--label", "trip", "--width", width]))
-
-    def look_at_legend(self, picture):
-        """The legend is in the picture, and its texts in the legend, at 7.8 and 8.8 pixels a letter; no end of a route is
-        below it."""
-        group = picture.find("./g[@transform]")
-        left, top = map(float, re.findall("[0-9.]+", group.get("transform")))
-        width, height = (float(group.find("rect").get(side)) for side in ("width", "height"))
-        assert left + width <= float(picture.get("width")) and top + height <= float(picture.get("height"))
-        for circle in picture.findall("./g[@clip-path]/circle"):
-            x, y = float(circle.get("cx")), float(circle.get("cy"))
-            assert not (left <= x <= left + width and top <= y <= top + height)
-        for text in group.findall("text"):
-            letter = 8.8 if text.get("font-weight") else 7.8
-            start = float(text.get("x")) - (len(told(text)) * letter if text.get("text-anchor") else 0)
-            assert 0 <= start and start + len(told(text)) * letter <= width + 1, told(text)
+        lines = ACROSS, [[0, 0], [0.004, 0]], [[0, 0], [0, 0.004], [0.004, 0.004], [0.004, 0]]
+        labels = "a", "a label that is rather long for any of them", LABEL
+        for label, width, line in itertools.product(labels, (200, 300, 500, 1000), lines):
+            picture = self.picture_of(route(label, line), words=["--label", "trip", "--width", width])
+            group = picture.find("./g[@transform]")
+            left, top = map(float, re.findall("[0-9.]+", group.get("transform")))
+            width, height = (float(group.find("rect").get(side)) for side in ("width", "height"))
+            assert left + width <= float(picture.get("width")) and top + height <= float(picture.get("height"))
+            for circle in picture.findall("./g[@clip-path]/circle"):
+                x, y = float(circle.get("cx")), float(circle.get("cy"))
+                assert not (left <= x <= left + width and top <= y <= top + height)
+            for text, said in zip(group.findall("text"), texts_at(group, "text")):
+                wide = len(said) * (8.8 if text.get("font-weight") else 7.8)
+                start = float(text.get("x")) - (wide if text.get("text-anchor") else 0)
+                assert 0 <= start and start + wide <= width + 1, said
 
     def test_contrast(self):
         """Of all colours, and the more, the more important a road is."""
@@ -258,14 +245,6 @@ class Picture(DrawCase):
         rising = [contrast("#1b1c1f", road["dark"]) for road in data["roads"]]
         assert rising == sorted(rising) and min(*rising, *(contrast("#1b1c1f", dark) for _, dark in found)) >= 3
 
-    def test_tunnels_are_dashed(self):
-        """Below the others."""
-        rows = ARCS.replace(",WKT", ",structure,WKT").replace(',"LINE', ',,"LINE').replace("Slip,,", "Slip,tunnel,")
-        self.write("net.arcs.csv", rows)
-        dashes = roads_in(self.picture_of(EAST), lambda path: path.get("stroke-dasharray"))
-        assert [*dashes.items()] == [("3", "5 4"), ("1.8", None)]
-        assert [kind["dashes"] for kind in self.page_of(EAST)[1]["roads"]] == [None] * 5 + ["5 4"]
-
     def test_a_network_of_dimacs(self):
         """Which has small roads alone, and more than there is room for."""
         self.write("d.co", "p aux sp co 3\nv 1 0 0\nv 2 1000 0\nv 3 2000 1000\n")
@@ -276,7 +255,7 @@ class Picture(DrawCase):
         assert (feature["properties"]["metres"], feature["properties"]["seconds"]) == (268.45, None)
         with mock.patch.object(roads, "MAX_POINTS", 1):
             drawn = self.picture_of(text=text, network="d.co", words=[])
-        assert (roads_in(drawn), legend_of(drawn)) == ({"1.2": 2}, ["route 1", "0.27 km"])
+        assert (roads_in(drawn), texts_at(drawn)) == ({"1.2": 2}, ["route 1", "0.27 km"])
 
     def test_shared_road(self):
         """Both go along High Street, so the first is wider there, and not along the slip road."""
@@ -292,14 +271,28 @@ class Picture(DrawCase):
         """That of the network, of the routes, and of --attribution, each once, and as a link on a page."""
         assert len(self.picture_of(EAST).findall("text")) == 1
         self.write("net.gr", "c attribution: © A & OpenStreetMap\np sp 5 0\n")
-        more = ["--attribution", "<tiles>"]
-        for own, words, said in (("© Others\n", more, ", © Others, <tiles>"), ("© A & OpenStreetMap", [], "")):
-            text = "".join(json.dumps({"type": "FeatureCollection", "attribution": own, "features": [EAST]}) for _ in range(2))
+        link, more = '<a href="https://www.openstreetmap.org/copyright">OpenStreetMap</a>', ["--attribution", "<tiles>"]
+        for own, words, said in ((("© C\n", "© B"), more, ", © C, © B, <tiles>"), (("© A & OpenStreetMap",) * 2, [], "")):
+            text = "".join(json.dumps({"type": "FeatureCollection", "attribution": each, "features": [EAST]}) for each in own)
             drawn = self.picture_of(text=text, words=words)
-            assert told(drawn.findall("text")[-1]) == f"© A & OpenStreetMap{said}" and legend_of(drawn)[2] == "route 2"
-            said = said.replace("<", "&lt;").replace(">", "&gt;")
-            link = '<a href="https://www.openstreetmap.org/copyright">OpenStreetMap</a>'
-            assert self.page_of(text=text, words=words)[1]["attribution"] == f"© A &amp; {link}{said}"
+            assert texts_at(drawn, "text")[-1] == f"© A & OpenStreetMap{said}" and texts_at(drawn)[2] == "route 2"
+            assert self.page_of(text=text, words=words)[1]["attribution"] == f"© A &amp; {link}{html.escape(said)}"
+
+    def test_areas(self):
+        """By the names of their contours, or numbers, in their own colours, or the next ones, a third of each, below the roads."""
+        features = [area("<b>", [ACROSS, ACROSS], contour=contour, metric=metric, fill=fill) for contour, metric, fill in (
+            (200, "distance", "red"), (2.5, "time", "#0072b2"), (7, "weight", "#ab01234"), ("7", "time", None))]
+        features[2]["geometry"] = {"type": "MultiPolygon", "coordinates": [[ACROSS, ACROSS], [ACROSS]]}
+        drawn, wanted = self.picture_of(*features, words=[]), [*zip(("#0072b2", "#0072b2", *routes.COLOURS[2:4]), (2, 2, 3, 2))]
+        *areas, first, second = drawn.findall("./g[@clip-path]//path")
+        assert [(path.get("stroke"), path.get("d").count("Z")) for path in areas] == wanted
+        assert [path.get(name) for path, name in ((first, "stroke"), (areas[1], "fill"), (areas[1], "fill-rule"))] == [
+            "#8b877f", "#a8cde1", "evenodd"]
+        assert texts_at(drawn)[::2] == texts_at(drawn, "./g/g/title") == ["200 m", "2.5 min", "7", "area 4"]
+        assert [rect.get("fill") for rect in drawn.findall("./g[@transform]/rect")[1:]] == [path.get("fill") for path in areas]
+        found = [each["area"] for each in self.page_of(*features, words=[])[1]["routes"]]
+        assert [(each["colour"], len(each["rings"])) for each in found] == wanted
+        assert texts_at(self.picture_of(features[0]), "./g/g/title") == ["<b>"]
 
     def test_corners(self):
         """The legend hides the fewest points of routes, also between their own, and of roads where corners are alike."""
@@ -322,8 +315,6 @@ class Picture(DrawCase):
         self.run_tool("draw", "net", "-", "out.svg", "--label", "trip", given=lines)
         assert (self.folder / "out.svg").read_text() == before
 
-
-class Page(DrawCase):
     def test_routes_on_the_page(self):
         east, nowhere = self.page_of(EAST, NO_WAY)[1]["routes"]
         assert (east["label"], east["figures"], east["ends"]) == (LABEL, "0.44 km, 1.5 min", [0, 0, 4000, 0])
@@ -336,7 +327,7 @@ class Page(DrawCase):
         assert found["names"] == [["B", 2500, 0], ["A", 500, 0]]
         assert found["steps"] == [["A", "1.00 km"], ["unnamed road", "0 m"], ["B", "3.00 km"], ["C", "0 m"]]
 
-    def test_roads(self):
+    def test_roads_of_pages(self):
         for words, counts in (([], [0, 1, 0, 1, 0]), (["--full-network"], [1, 1, 0, 1, 0])):
             data = self.page_of(EAST, words=words)[1]
             assert ([len(kind["lines"]) for kind in data["roads"]], data["bounds"]) == (counts, [[0, 0], [0, 0.004]])
@@ -371,14 +362,11 @@ class Page(DrawCase):
         with mock.patch.object(page, "LEAFLET", self.folder), pytest.raises(ToolError, match=says):
             self.page_of(EAST)
 
-
-class BadInput(DrawCase):
-    def test_a_file_without_a_route(self):
+    def test_texts_that_are_refused(self):
+        """And a file without a route, which isn't."""
         self.write("none", '{"type": "FeatureCollection", "features": []}')
         said = self.run_tool("draw", "net", "none", "out.svg").stderr
         assert said == "draw: none has no route: the roads alone are drawn\n"
-
-    def test_texts_that_are_refused(self):
         good = json.dumps(EAST)
         for text, says in (
             ("\n", ": is empty: a step that was to write it has failed"), ("{}", ", row 1: is neither a feature nor a collection"),
@@ -400,6 +388,8 @@ class BadInput(DrawCase):
         for line in ([[9.5, 47.1], [9.6, 47.2]], *([place, [0, 0]] for place in near)):
             self.assert_refused_here(says, EAST, route("far", line))
         self.drawn("out.svg", route("beside", [[0.0049, -0.0009], [-0.0009, 0.0209]]))
+        self.drawn("out.svg", area("beside", [[[0, 0], [0, 0.119], [0.103, 0.119], [0, 0]]]))
+        self.assert_refused_here(says, EAST, area("far", [[[0, 0], [0, 0.121], [0.103, 0.121], [0, 0]]]))
 
     def test_networks_that_are_refused(self):
         self.assert_refused_here("nowhere.net: No such file", EAST, network="nowhere")
@@ -417,81 +407,51 @@ class BadInput(DrawCase):
         ]:
             with pytest.raises(SystemExit, match="2"):
                 run_tool("draw", "net", *["routes"] * bool(words), *words)
-        self.assertIn("--tiles", self.run_tool("draw", "--help").stdout)
 
 
-def test_mercator():
-    """By the projection of web maps 45 degrees north lie at log(1 + sqrt(2)) / (2 pi) = 0.140275 above the middle."""
-    found = geometry.to_mercator([(-180, 0), (0, 45), (180, -90), (0, 90)])
-    assert [x for x, _ in found] == [0, 0.5, 1, 0.5]
-    assert [y for _, y in found] == pytest.approx([0.5, 0.359725, 1, 0], abs=1e-4)
-    for place in ((-180, 0), (20, 45), (179, -60)):
-        assert geometry.from_mercator(*geometry.to_mercator([place])) == pytest.approx(place, abs=1e-7)
-    # That of test_pixels_of_places, for a page, which has a quarter of its height more on each side.
-    box, high = roads.box_for([(0, 0), (0.004, 0)], False), 0.0043973
-    assert (360 * box.width, 360 * box.height) == pytest.approx((0.0083973 + high / 2, 1.5 * high), rel=1e-4)
+A, B, C, D = (0, 0), (1, 0), (2, 0), (3, 0)
+BENT, WIDE = [(0, 0), (1, 0), (1, 0), (1, 3)], [(0, 0), (1, 0), (2, 0), (2, 9), (9, 9)]
+# By the projection of web maps 45 degrees north lie at log(1 + sqrt(2)) / (2 pi) = 0.140275 above the middle. Steps are between
+# places that are rounded, so what is left out of one is in a later one. At 60 degrees a degree to the east is half as long.
+GEOMETRY = [
+    *((geometry.to_mercator, ([place],), [pytest.approx(point, abs=1e-4)]) for place, point in (
+        ((-180, 0), (0, 0.5)), ((0, 45), (0.5, 0.359725)), ((180, -90), (1, 1)), ((0, 90), (0.5, 0)))),
+    *((geometry.from_mercator, geometry.to_mercator([place]), pytest.approx(place)) for place in ((-180, 0), (20, 45), (179, -60))),
+    (geometry.join_lines, ([["a", "b"], ["b", "b", "c"], ["c", "a"]],), ["a", "b", "c", "a"]),
+    (geometry.path_of, ([(0, 0), (0.04, 0), (0.08, 0), (0.12, -0.04)],), "M0 0l0.1 0"),
+    (geometry.delta_encode, ([(0, 1), (4e-7, 1), (8e-7, 1 + 4e-7)],), [0, 1_000_000, 0, 0, 1, 0]),
+    (geometry.overlap_pieces, ([[A, B, C, D], [C, B, A, B], [B, C]], 9),
+     [[(1, [A, B]), (2, [B, C]), (0, [C, D])], [(1, [C, B]), (0, [B, A, B])], [(0, [B, C])]]),
+    (geometry.overlap_pieces, ([[A, B], [A, B], [A, B], []], 1), [[(1, [A, B])], [(1, [A, B])], [(0, [A, B])], []]),
+    (geometry.arrows, ([(0, 0), (10, 0), (10, 10)], 8), [((4, 0), (1, 0)), ((10, 2), (0, 1))]),
+    (geometry.arrows, ([(0, 0), (0, 0), (0, -3)], 2), [((0, -1), (0, -1))]), (geometry.arrows, ([(0, 0), (0, 0)], 2), []),
+    *((geometry.point_at_fraction, (BENT, share), pytest.approx(place)) for share, place in (
+        (0, (0, 0)), (0.125, (0.5, 0)), (0.25, (1, 0)), (0.5, (1, 1)), (1, (1, 3)))),
+    (geometry.point_at_fraction, ([(5, 6), (5, 6)], 0.5), (5, 6)),
+    (geometry.point_at_fraction, ([(0, 60), (1, 60), (1, 61)], 2 / 3), pytest.approx((1, 60.5))),
+    *((geometry.scale_bar_metres, (metres,), bar) for metres, bar in (
+        (1, 1), (1.99, 1), (4.9, 2), (5, 5), (999, 500), (1000, 1000), (2500, 2000), (0.3, 0.2))),
+    (picture.spaced, (WIDE, 1.5), [(0, 0), (2, 0), (2, 9), (9, 9)]),
+    *((routes.kilometres, (metres,), text) for metres, text in (
+        (999.4, "1.00 km"), (999.5, "1.00 km"), (9999, "10.00 km"), (10_000, "10.0 km"), (1e6, "1000.0 km"))),
+    *((routes.minutes, (seconds,), text) for seconds, text in (
+        (599.9, "10.0 min"), (600, "10 min"), (3569, "59 min"), (3570, "1 h 0 min"), (90_060, "25 h 1 min"))),
+    *((routes.way_of, (metres,), text) for metres, text in ((999.4, "999 m"), (999.5, "1.00 km"), (10_000, "10.0 km"))),
+]
 
 
-def test_lines():
-    """Steps are between places that are rounded, so what is left out of one is in a later one."""
-    assert geometry.join_lines([["a", "b"], ["b", "b", "c"], ["c", "a"]]) == ["a", "b", "c", "a"]
-    assert geometry.path_of([(0, 0), (0.04, 0), (0.08, 0), (0.12, -0.04)]) == "M0 0l0.1 0"
-    assert geometry.delta_encode([(0, 1), (4e-7, 1), (8e-7, 1 + 4e-7)]) == [0, 1_000_000, 0, 0, 1, 0]
+@pytest.mark.parametrize("call, words, wanted", GEOMETRY)
+def test_geometry(call, words, wanted):
+    assert call(*words) == wanted
 
 
-def test_overlaps():
-    a, b, c, d = (0, 0), (1, 0), (2, 0), (3, 0)
-    found = geometry.overlap_pieces([[a, b, c, d], [c, b, a, b], [b, c]], 9)
-    assert found == [[(1, [a, b]), (2, [b, c]), (0, [c, d])], [(1, [c, b]), (0, [b, a, b])], [(0, [b, c])]]
-    assert geometry.overlap_pieces([[a, b], [a, b], [a, b], []], 1)[0] == [(1, [a, b])]
-
-
-def test_places_of_arrows():
-    for line, every, arrows in (([(0, 0), (10, 0), (10, 10)], 8, [((4, 0), (1, 0)), ((10, 2), (0, 1))]),
-                                ([(0, 0), (0, 0), (0, -3)], 2, [((0, -1), (0, -1))]), ([(0, 0), (0, 0)], 2, [])):
-        assert geometry.arrows(line, every) == arrows
-
-
-def test_shares():
-    """At 60 degrees north the first part is half as long as the second one."""
-    bent = [(0, 0), (1, 0), (1, 0), (1, 3)]
-    for share, place in ((0, (0, 0)), (0.125, (0.5, 0)), (0.25, (1, 0)), (0.5, (1, 1)), (1, (1, 3))):
-        assert geometry.point_at_fraction(bent, share) == pytest.approx(place)
-    assert geometry.point_at_fraction([(5, 6), (5, 6)], 0.5) == (5, 6)
-    assert geometry.point_at_fraction([(0, 60), (1, 60), (1, 61)], 2 / 3)[1] == pytest.approx(60.5)
-
-
-def test_scale_bars():
-    found = [geometry.scale_bar_metres(metres) for metres in (1, 1.99, 4.9, 5, 999, 1000, 2500, 0.3)]
-    assert found == [1, 1, 2, 5, 500, 1000, 2000, 0.2]
-    for degrees, said in ((0.04, "500 m"), (0.05, "1 km"), (0.5, "10 km")):  # (a fifth of 4.4, of 5.6 and of 55.6 km)
+def test_views():
+    """The bar is a fifth of 4.4, of 5.6 and of 55.6 km. A page has a quarter of its height more on each side than a picture."""
+    for degrees, said in ((0.04, "500 m"), (0.05, "1 km"), (0.5, "10 km")):
         view = geometry.View(geometry.box_of(geometry.to_mercator([(0, 0), (degrees, 0)])), 1000)
         assert f">{said}</text>" in "".join(picture.draw_foot("", view))
-
-
-@pytest.mark.parametrize("metres, seconds, far, long, way", [
-    (999.4, 599.9, "1.00 km", "10.0 min", "999 m"), (999.5, 600, "1.00 km", "10 min", "1.00 km"),
-    (9999, 3569, "10.00 km", "59 min", "10.00 km"), (10_000, 3570, "10.0 km", "1 h 0 min", "10.0 km"),
-    (1e6, 90_060, "1000.0 km", "25 h 1 min", "1000.0 km"),
-])
-def test_figures(metres, seconds, far, long, way):
-    assert (routes.kilometres(metres), routes.minutes(seconds), routes.way_of(metres)) == (far, long, way)
-
-
-def test_areas():
-    """Each is called by its contour, or else its number, and has its own colour, or else the next one, and all rings."""
-    ring = [[0, 0], [1, 0], [1, 1], [0, 0]]
-    shapes = [{"type": "Polygon", "coordinates": [ring]}, {"type": "MultiPolygon", "coordinates": [[ring, ring], [ring]]}]
-    for contour, metric, fill, label, colour in [
-        (2.5, "time", "#Ab0123", "2.5 min", "#Ab0123"), (200, "distance", "red", "200 m", routes.COLOURS[1]),
-        (7, "weight", "#ab01234", "7", routes.COLOURS[1]), ("7", "time", None, "area 2", routes.COLOURS[1]),
-    ]:
-        properties = {"contour": contour, "metric": metric, "fill": fill}
-        first, second = routes.routes_of([{"properties": properties, "geometry": shape} for shape in shapes], "r", None)
-        assert (second.label, second.colour, len(first.rings), len(second.rings)) == (label, colour, 1, 3)
-    view = geometry.View(geometry.Box(0, 0, 1, 1), 100)
-    drawn = picture.draw_area(first._replace(label="<b>", colour="#0072b2"), view)
-    assert "<title>&lt;b&gt;</title>" in drawn and 'fill="#a8cde1"' in drawn  # (a third of the colour on the paper)
+    box, high = roads.box_for([(0, 0), (0.004, 0)], False), 0.0043973
+    assert (360 * box.width, 360 * box.height) == pytest.approx((0.0083973 + high / 2, 1.5 * high), rel=1e-4)
 
 
 def test_roads_in_boxes(tmp_path, monkeypatch):
