@@ -2,6 +2,7 @@
 import csv
 import os
 import pathlib
+import re
 import shutil
 import subprocess
 import sys
@@ -50,22 +51,14 @@ class ToolCase(unittest.TestCase):
         self.addCleanup(shutil.rmtree, self.folder)
 
     def run_tool(self, tool, *words, status=0, given=None, environment=None):
-        """Runs a tool, or a script of tests/manual, with the words, and `given` as its standard input, and wants the status. Texts
-        are returned."""
+        """Runs a tool, or a script of tests/manual, with `given` as its standard input; it has to end with the status."""
         folder = TOOLS if (TOOLS / tool).exists() else MANUAL
         return self.run_program([folder / tool, *words], status, given, environment)
 
     def run_program(self, words, status=0, given=None, environment=None):
-        ended = subprocess.run(
-            [str(word) for word in words],
-            cwd=self.folder,
-            input=given,
-            stdin=subprocess.DEVNULL if given is None else None,
-            capture_output=True,
-            encoding="utf-8",
-            env={**os.environ, **(environment or {})},
-            timeout=SECONDS,
-        )
+        stdin = {"stdin": subprocess.DEVNULL} if given is None else {"input": given}
+        ended = subprocess.run([*map(str, words)], cwd=self.folder, capture_output=True, encoding="utf-8", timeout=SECONDS,
+                               env={**os.environ, **(environment or {})}, **stdin)
         self.assertEqual(ended.returncode, status, ended.stderr)
         return ended
 
@@ -73,14 +66,10 @@ class ToolCase(unittest.TestCase):
         """Wants status 1, one line on standard error with the text `says`, nothing written, and the folder as it was."""
         before = self.contents()
         ended = self.run_tool(tool, *words, status=1, given=given, environment=environment)
-        self.assertEqual(ended.stderr.count("\n"), 1, ended.stderr)
-        self.assertTrue(ended.stderr.startswith(f"{tool}: "), ended.stderr)
-        self.assertIn(says, ended.stderr)
-        self.assertEqual(ended.stdout, "")
-        self.assertEqual(self.contents(), before)
+        assert re.fullmatch(f"{tool}: .*{re.escape(says)}.*\n", ended.stderr), ended.stderr
+        assert (ended.stdout, self.contents()) == ("", before)
 
     def contents(self):
-        """The files of the folder, with their bytes."""
         return {path: path.read_bytes() for path in self.folder.rglob("*") if path.is_file()}
 
     def write(self, name, text):
@@ -99,12 +88,10 @@ def run_python(code, *words, folder=None, status=0, **environment):
 
 def contrast(*colours: str) -> float:
     """The ratio of two colours, by the Web Content Accessibility Guidelines."""
-    lights = []
-    for colour in colours:
-        parts = [int(colour[place : place + 2], 16) / 255 for place in (1, 3, 5)]
-        linear = [part / 12.92 if part <= 0.04045 else ((part + 0.055) / 1.055) ** 2.4 for part in parts]
-        lights.append(0.2126 * linear[0] + 0.7152 * linear[1] + 0.0722 * linear[2])
-    return (max(lights) + 0.05) / (min(lights) + 0.05)
+    parts = [[int(colour[place : place + 2], 16) / 255 for place in (1, 3, 5)] for colour in colours]
+    linear = [[part / 12.92 if part <= 0.04045 else ((part + 0.055) / 1.055) ** 2.4 for part in some] for some in parts]
+    low, high = sorted(0.2126 * red + 0.7152 * green + 0.0722 * blue for red, green, blue in linear)
+    return (high + 0.05) / (low + 0.05)
 
 
 def is_running(number: int) -> bool:
