@@ -4,7 +4,6 @@ import contextlib
 import json
 import os
 import pathlib
-import shutil
 import signal
 import socket
 import subprocess
@@ -26,18 +25,16 @@ class Browser:
     """One page. `faults` are what its console has of errors, and `asked` the addresses that it has asked for."""
 
     def __init__(self):
-        self._folder = tempfile.mkdtemp(prefix="browser-")
+        self._folder = tempfile.TemporaryDirectory(prefix="browser-", ignore_cleanup_errors=True)
         self.faults, self.asked, self._number, self._received, self._session = [], [], 0, b"", {}
         # (the program reads commands from descriptor 3, and writes to 4)
         self._socket, theirs = socket.socketpair()
         self._socket.settimeout(SECONDS)
         shell = ["/bin/bash", "-c", f'exec "$@" 3<&{theirs.fileno()} 4>&{theirs.fileno()}', "bash"]
-        words = [*shell, "chromium", *WORDS, f"--user-data-dir={self._folder}", "about:blank"]
-        environment = {**os.environ, "HOME": self._folder}
-        self._process = subprocess.Popen(
-            words, stderr=subprocess.DEVNULL, env=environment, process_group=0, pass_fds=[theirs.fileno()]
-        )
-        theirs.close()
+        words = [*shell, "chromium", *WORDS, f"--user-data-dir={self._folder.name}", "about:blank"]
+        with theirs:
+            environment, pipe = {**os.environ, "HOME": self._folder.name}, [theirs.fileno()]
+            self._process = subprocess.Popen(words, stderr=subprocess.DEVNULL, env=environment, process_group=0, pass_fds=pipe)
         try:
             target = self.call("Target.createTarget", url="about:blank")["targetId"]
             self._session = {"sessionId": self.call("Target.attachToTarget", targetId=target, flatten=True)["sessionId"]}
@@ -52,25 +49,22 @@ class Browser:
             os.killpg(self._process.pid, signal.SIGKILL)
         self._process.wait()
         self._socket.close()
-        shutil.rmtree(self._folder, ignore_errors=True)
+        self._folder.cleanup()
 
     def call(self, method, **words):
-        """The answer to a command."""
         self._number += 1
         command = {"id": self._number, "method": method, "params": words, **self._session}
         self._socket.sendall(json.dumps(command).encode() + b"\0")
         while (message := self._read()).get("id") != self._number:
             self._note(message["method"], message["params"])
-        if "error" in message:
-            raise AssertionError(f"{method}: {message['error']}")
+        assert "error" not in message, f"{method}: {message['error']}"
         return message["result"]
 
     def _read(self):
         """The next message: JSON that ends with a zero byte."""
         while b"\0" not in self._received:
             part = self._socket.recv(1 << 20)
-            if not part:
-                raise AssertionError("chromium has ended")
+            assert part, "chromium has ended"
             self._received += part
         text, _, self._received = self._received.partition(b"\0")
         return json.loads(text)
@@ -78,13 +72,12 @@ class Browser:
     def _note(self, name, words):
         if name == "Network.requestWillBeSent":
             self.asked.append(words["request"]["url"])
-        if name == "Runtime.exceptionThrown" or name == "Log.entryAdded" and words["entry"]["level"] == "error":
-            self.faults.append(words)
-        if name == "Runtime.consoleAPICalled" and words["type"] in ("error", "warning", "assert"):
+        is_error = name == "Log.entryAdded" and words["entry"]["level"] == "error"
+        is_said = name == "Runtime.consoleAPICalled" and words["type"] in ("error", "warning", "assert")
+        if name == "Runtime.exceptionThrown" or is_error or is_said:
             self.faults.append(words)
 
     def open(self, address, width=1280, height=800, is_dark=False):
-        """Opens an address in a window of this size."""
         scheme = [{"name": "prefers-color-scheme", "value": "dark" if is_dark else "light"}]
         self.call("Emulation.setEmulatedMedia", features=scheme)
         self.call("Emulation.setDeviceMetricsOverride", width=width, height=height, deviceScaleFactor=1, mobile=width < 600)
@@ -96,16 +89,14 @@ class Browser:
     def value(self, script):
         """The value of an expression of JavaScript; a promise is waited for."""
         found = self.call("Runtime.evaluate", expression=script, awaitPromise=True, returnByValue=True)
-        if "exceptionDetails" in found:
-            raise AssertionError(f"{script}: {found['exceptionDetails']}")
+        assert "exceptionDetails" not in found, f"{script}: {found['exceptionDetails']}"
         return found["result"].get("value")
 
-    def until(self, script, seconds=SECONDS):
+    def until(self, script):
         """Waits until an expression is true; returns its value."""
-        end = time.monotonic() + seconds
+        end = time.monotonic() + SECONDS
         while not (found := self.value(script)):
-            if time.monotonic() > end:
-                raise AssertionError(f"never true: {script}")
+            assert time.monotonic() < end, f"never true: {script}"
             time.sleep(0.05)
         return found
 
@@ -114,7 +105,6 @@ class Browser:
         return self.value(f"{MAIN}.then(async ({{view}}) => {{ while (view.frame) await new Promise(requestAnimationFrame); {body} }})")
 
     def pixel(self, lon, lat):
-        """The pixel of the window at which a place is shown."""
         return self.drawn(f"""const {{left, top}} = view.element.getBoundingClientRect(), [x, y] = view.pixel([{lon}, {lat}]);
             return [x + left, y + top];""")
 
@@ -140,5 +130,4 @@ class Browser:
         self.call("Input.dispatchKeyEvent", type="keyUp", **words)
 
     def picture(self, path):
-        """Writes what is shown as PNG."""
         pathlib.Path(path).write_bytes(base64.b64decode(self.call("Page.captureScreenshot", format="png")["data"]))

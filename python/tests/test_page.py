@@ -1,10 +1,10 @@
 """The page that finds routes offline (domethyme_tools.page): its files, its rules beside those of the service, and in a browser."""
 import base64
 import contextlib
+import csv
 import functools
 import gzip
 import hashlib
-import heapq
 import itertools
 import json
 import math
@@ -19,9 +19,10 @@ import subprocess
 import numpy as np
 import pytest
 from browser import Browser
-from draws import drawn
+from draws import drawn, run_tool
 from hypothesis import given
 from hypothesis import strategies as st
+from scipy.sparse.csgraph import dijkstra
 from reach_case import Road, network as made_network
 from tool_case import PYTHON, ROOT, TOOLS, VILLAGE
 from web_case import built
@@ -35,15 +36,14 @@ from domethyme.network.from_tables import load_network
 from domethyme.network.snapping import RoadIndex
 from domethyme.router import Router
 from domethyme_service.tiles import Tiles
+from domethyme_tools import page
 from domethyme_tools.cli import ToolError
-from domethyme_tools.page import MOST_NODES
 from domethyme_tools.page.bundle import bundled
 from domethyme_tools.page.hierarchy import NO_MIDDLE, columns_of as columns_of_hierarchy
 from domethyme_tools.page.network import network_bytes, preferred, split_nodes
 
 PAGE = PYTHON / "domethyme_tools/page"
 DOCUMENT = ROOT / "docs/liechtenstein.html"
-SIZES = [(1280, 800), (390, 780), (820, 1180), (1920, 1080)]
 # Links of a hierarchy that are arcs: start, end, weight, arcs and middle.
 FIRST, SECOND = (0, 1, 5, 1, NO_MIDDLE), (1, 2, 7, 1, NO_MIDDLE)
 pytestmark = pytest.mark.xdist_group("page")
@@ -55,31 +55,39 @@ def run(*words, status=0, **environment):
     return ended
 
 
+def village_in(folder, *words):
+    run(TOOLS / "osm_to_gr", VILLAGE, folder / "n", "--keep-islands", *words)
+    domethyme.prepare(folder / "n.gr", folder / "n.rch", workers=1).close()
+    return folder
+
+
+def made_in(folder, nodes, arcs, *words, name="n"):
+    """The folder with a network of the rows of tables, and its hierarchy."""
+    heads = {"nodes": ["node", "lon", "lat"], "arcs": ["from", "to", "oneway", "weight", "highway", "name", "WKT"]}
+    for table, rows in (("nodes", nodes), ("arcs", arcs)):
+        with open(folder / f"t.{table}.csv", "w", newline="") as file:
+            csv.writer(file).writerows([heads[table], *rows])
+    run(TOOLS / "to_network", folder / "t.nodes.csv", folder / "t.arcs.csv", folder / name, *words)
+    domethyme.prepare(folder / f"{name}.gr", folder / f"{name}.rch", workers=1).close()
+    return folder
+
+
 @pytest.fixture(scope="module", params=["car", "metres", "weights"])
 def network(request, tmp_path_factory):
     """A folder with the network n and its hierarchy n.rch: the village by time and by length, and a grid of weights alone over the
     180th meridian, with bends, one-way roads and ferries."""
     folder = tmp_path_factory.mktemp("page")
-    if request.param == "weights":
-        draw, rows, side = random.Random(2), [], 12
-        place = {(x, y): ((180 + (x - side / 2) / 500 + draw.gauss(0, 2e-4) + 180) % 360 - 180, 60 + y / 900) for x in range(side) for y in range(side)}
-        number = {at: index for index, at in enumerate(place)}
-        for (x, y), (lon, lat) in place.items():
-            for other in ((x + 1, y), (x, y + 1)):
-                if other in place:
-                    there, bend = place[other], (lon, lat + draw.gauss(0, 3e-4))
-                    wkt = ", ".join(f"{east:.7f} {north:.7f}" for east, north in ((lon, lat), bend, there))
-                    highway = "ferry" if draw.randrange(5) == 0 else "primary"
-                    rows.append(f'{number[x, y]},{number[other]},{draw.randrange(2)},{draw.randrange(1, 5000)},{highway},"Way {x}","LINESTRING ({wkt})"')
-        nodes = "node,lon,lat\n" + "".join(f"{index},{lon:.7f},{lat:.7f}\n" for index, (lon, lat) in enumerate(place.values()))
-        (folder / "t.nodes.csv").write_text(nodes)
-        (folder / "t.arcs.csv").write_text("from,to,oneway,weight,highway,name,WKT\n" + "\n".join(rows) + "\n")
-        run(TOOLS / "to_network", folder / "t.nodes.csv", folder / "t.arcs.csv", folder / "n")
-    else:
-        by = ["--weight", "length"] if request.param == "metres" else []
-        run(TOOLS / "osm_to_gr", VILLAGE, folder / "n", "--keep-islands", *by)
-    domethyme.prepare(folder / "n.gr", folder / "n.rch", workers=1).close()
-    return folder
+    if request.param != "weights":
+        return village_in(folder, *["--weight", "length"] * (request.param == "metres"))
+    draw, arcs, grid = random.Random(2), [], [*itertools.product(range(12), repeat=2)]
+    places = {(x, y): (round(((x - 6) / 500 + draw.gauss(0, 2e-4)) % 360 - 180, 7), round(60 + y / 900, 7)) for x, y in grid}
+    for (x, y), (lon, lat) in places.items():
+        for other in sorted({(x + 1, y), (x, y + 1)}.intersection(grid)):
+            line = (lon, lat), (lon, lat + draw.gauss(0, 3e-4)), places[other]
+            wkt = ", ".join(f"{east:.7f} {north:.7f}" for east, north in line)
+            figures = draw.randrange(2), draw.randrange(1, 5000), draw.choice(["ferry", *["primary"] * 4]), f"Way {x}"
+            arcs.append((grid.index((x, y)), grid.index(other), *figures, f"LINESTRING ({wkt})"))
+    return made_in(folder, [(node, *place) for node, place in enumerate(places.values())], arcs)
 
 
 def places_near(roads: RoadIndex, count: int, seed: int = 5) -> list[tuple[float, float]]:
@@ -93,7 +101,6 @@ def places_near(roads: RoadIndex, count: int, seed: int = 5) -> list[tuple[float
 
 
 def asked_of_page(folder, tmp_path, **question):
-    """What the page's modules answer in Node."""
     for file in [*PAGE.glob("*.js"), pathlib.Path(__file__).parent / "web/roads.mjs", built() / "domethyme.js"]:
         shutil.copy(file, tmp_path)
     (tmp_path / "package.json").write_text('{"type": "module"}')
@@ -105,12 +112,11 @@ def asked_of_page(folder, tmp_path, **question):
 
 
 def hierarchy_of_page(columns: bytes, tmp_path) -> bytes:
-    """The bytes that hierarchy.js makes."""
     (tmp_path / "columns").write_bytes(columns)
     script = ("import(process.argv[1]).then(({ hierarchyBytes }) => "
               "process.stdout.write(hierarchyBytes(new Uint8Array(require('fs').readFileSync(process.argv[2])))))")
-    shutil.copy(PAGE / "hierarchy.js", tmp_path / "hierarchy.mjs")
-    words = ["nodejs", "-e", script, f"file://{tmp_path}/hierarchy.mjs", tmp_path / "columns"]
+    module = shutil.copy(PAGE / "hierarchy.js", tmp_path / "hierarchy.mjs")
+    words = ["nodejs", "-e", script, f"file://{module}", tmp_path / "columns"]
     return subprocess.run(words, check=True, capture_output=True).stdout
 
 
@@ -125,22 +131,17 @@ def length_of(lines) -> float:
     return sum(math.dist(begin, end) for line in lines for begin, end in itertools.pairwise(line) if abs(begin[0] - end[0]) < 180)
 
 
-@pytest.mark.needs("nodejs")
-@pytest.mark.needs("wasm-opt")
-@pytest.mark.needs("wasm-objdump")
 class TestRules:
     """Nearest roads, parts of arcs, streets, reach and tiles are those of the service, and the hierarchy is the file's."""
 
-    def test_hierarchy_in_the_page(self, network, tmp_path):
-        data = (network / "n.rch").read_bytes()
-        columns = columns_of_hierarchy(data, "n.rch")
-        assert len(columns) < 0.75 * len(data)
-        assert hierarchy_of_page(columns, tmp_path) == data
+    pytestmark = [pytest.mark.needs(program) for program in ("nodejs", "wasm-opt", "wasm-objdump")]
 
-    @pytest.mark.parametrize("count", [0, 1])
-    def test_hierarchies_of_no_links(self, tmp_path, count):
-        data = b"RCH2" + count.to_bytes(4, "big") + bytes(16) + bytes(4 * count)
-        assert hierarchy_of_page(columns_of_hierarchy(data, "n.rch"), tmp_path) == data
+    def test_hierarchy_in_the_page(self, network, tmp_path):
+        """And those without links."""
+        data = (network / "n.rch").read_bytes()
+        assert len(columns_of_hierarchy(data, "n.rch")) < 0.75 * len(data)
+        for each in (data, *(b"RCH2" + count.to_bytes(4, "big") + bytes(16 + 4 * count) for count in (0, 1))):
+            assert hierarchy_of_page(columns_of_hierarchy(each, "n.rch"), tmp_path) == each
 
     def test_routes_as_the_library_has_them(self, network, tmp_path):
         roads, router = RoadIndex(str(network / "n")), Router((network / "n.rch").read_bytes(), "n.rch")
@@ -208,11 +209,6 @@ class TestRules:
         assert total > 100
 
 
-def page_of(folder, out):
-    run(TOOLS / "page", folder / "n", folder / "n.rch", out, "--library", built())
-    return out
-
-
 @pytest.fixture
 def browser():
     browser = Browser()
@@ -232,35 +228,28 @@ def text_of(browser, name):
 
 
 def asked_routes(browser, pairs):
-    """The routes of the page's worker between places."""
     script = f"Promise.all({json.dumps(pairs)}.map((places) => service_js.service.route(places).catch((error) => error.code)))"
     return browser.value(script)
 
 
 def quiet(browser):
     """The console has no error, and nothing was asked of a network."""
-    assert browser.faults == []
-    assert [each for each in browser.asked if not each.startswith(("file:", "blob:", "about:", "data:"))] == []
+    assert not browser.faults and all(each.startswith(("file:", "blob:", "about:", "data:")) for each in browser.asked)
 
 
 @pytest.fixture(scope="module")
 def village(tmp_path_factory):
-    """A folder with the village, n, and its page."""
-    folder = tmp_path_factory.mktemp("village")
-    run(TOOLS / "osm_to_gr", VILLAGE, folder / "n", "--keep-islands")
-    domethyme.prepare(folder / "n.gr", folder / "n.rch", workers=1).close()
-    page_of(folder, folder / "page.html")
+    folder = village_in(tmp_path_factory.mktemp("village"))
+    run(TOOLS / "page", folder / "n", folder / "n.rch", folder / "page.html", "--library", built())
     return folder
 
 
-@pytest.mark.needs("chromium")
-@pytest.mark.needs("wasm-opt")
-@pytest.mark.needs("wasm-objdump")
 class TestInABrowser:
-    @pytest.mark.parametrize("size", SIZES, ids=str)
-    def test_a_route_by_clicks(self, village, browser, size):
+    pytestmark = [pytest.mark.needs(program) for program in ("chromium", "wasm-opt", "wasm-objdump")]
+
+    @pytest.mark.parametrize("width, height", [(1280, 800), (390, 780), (820, 1180), (1920, 1080)])
+    def test_a_route_by_clicks(self, village, browser, width, height):
         """Two clicks on High Street: from 1 to 3 they are 4 steps, of 111.195 m, at 50 km/h by its profile."""
-        width, height = size
         opened(browser, village / "page.html", width=width, height=height, is_dark=width < 600)
         assert text_of(browser, "credit") == load_network(str(village / "n")).texts[0]
         for lon in (0.0005, 0.0035):
@@ -270,26 +259,13 @@ class TestInABrowser:
         spots = browser.value("main_js.then(({places}) => places.all)")
         points = [roads.nearest(tuple(spot))[0] for spot in spots]
         route = route_along(roads, points, [find_leg(functools.partial(ask_router, router), roads, *points)])
-        [answer] = asked_routes(browser, [spots])
-        assert answer["routes"][0]["legs"][0]["length"] == route.weight
-        assert [step["name"] for step in answer["routes"][0]["legs"][0]["steps"]] == [step["name"] for step in route.steps] == ["High Street"]
+        [leg] = asked_routes(browser, [spots])[0]["routes"][0]["legs"]
+        assert (leg["length"], len(leg["steps"]), len(route.steps)) == (route.weight, 1, 1)
+        assert leg["steps"][0]["name"] == route.steps[0]["name"] == "High Street"
         shown = browser.value("[...document.querySelectorAll('#steps .text')].map((each) => each.textContent)")
         assert shown == ["Start: High Street"]
         assert re.fullmatch(r"< 1 min3\d0 m", text_of(browser, "total")), text_of(browser, "total")
-        box = browser.value("JSON.stringify([document.documentElement.scrollWidth, innerWidth])")
-        assert json.loads(box)[0] <= json.loads(box)[1]
-        quiet(browser)
-
-    def test_lengths_are_the_services(self, village, browser):
-        roads, router = RoadIndex(str(village / "n")), Router((village / "n.rch").read_bytes(), "n")
-        places = places_near(roads, 100, 9)
-        pairs = list(zip(places[::2], places[1::2]))
-        opened(browser, village / "page.html")
-        for pair, answer in zip(pairs, asked_routes(browser, pairs), strict=True):
-            points = [roads.nearest(place)[0] for place in pair]
-            leg = find_leg(functools.partial(ask_router, router), roads, *points)
-            wanted = "NoSegment" if max(point.metres for point in points) > 1000 else leg.weight if leg else "NoRoute"
-            assert (answer if isinstance(answer, str) else answer["routes"][0]["legs"][0]["length"]) == wanted
+        assert browser.value("document.documentElement.scrollWidth <= innerWidth")
         quiet(browser)
 
     def test_keyboard_drag_and_reach(self, village, browser):
@@ -299,8 +275,7 @@ class TestInABrowser:
         before = browser.value("location.hash")
         browser.press("ArrowRight")
         browser.until(f"location.hash !== {json.dumps(before)}")
-        begin = browser.pixel(0.002, 0)
-        browser.drag(begin, browser.pixel(0.002, 0.001))
+        browser.drag(browser.pixel(0.002, 0), browser.pixel(0.002, 0.001))
         browser.until("document.querySelectorAll('#places li').length === 3")
         browser.value("document.querySelector('#marks button').focus()")
         browser.press("Delete")
@@ -313,27 +288,31 @@ class TestInABrowser:
             return canvas.getContext('2d').getImageData(0, 0, canvas.width, canvas.height).data.some((value) => value); })()""")
         quiet(browser)
 
-    def test_what_has_no_route(self, village, browser):
+    def test_lengths_are_the_services(self, village, browser):
+        """And so is what has no route. What it offers is less: round trips and what leads to a place are the service's alone."""
+        roads, router = RoadIndex(str(village / "n")), Router((village / "n.rch").read_bytes(), "n")
+        pairs = [*itertools.pairwise(places_near(roads, 50, 9))]
+        pairs += [(far, (0.0005, 0)) for far in ((0, 0.015), (20, 10), (-170, -60), (180, 0), (0, 90))]
         opened(browser, village / "page.html", "#0.0005,0;0.5,0.5")
         browser.until("document.getElementById('fault').textContent !== ''")
         assert text_of(browser, "fault") == "There is no road near the destination. Move it nearer to a road."
         browser.value("location.hash = '#0.0005,0;0.0205,0.005'")
         browser.until("document.getElementById('fault').textContent.includes('There is no route between these places')")
-        assert asked_routes(browser, [[far, (0.0005, 0)] for far in ((0, 0.015), (20, 10), (-170, -60), (180, 0), (0, 90))]) == ["NoSegment"] * 5
-        quiet(browser)
-
-    def test_what_it_says(self, village, browser):
-        """And what it offers: round trips and what leads to a place are the service's."""
-        opened(browser, village / "page.html")
+        for pair, answer in zip(pairs, asked_routes(browser, pairs), strict=True):
+            points = [roads.nearest(place)[0] for place in pair]
+            leg = find_leg(functools.partial(ask_router, router), roads, *points)
+            wanted = "NoSegment" if max(point.metres for point in points) > 1000 else leg.weight if leg else "NoRoute"
+            assert (answer if isinstance(answer, str) else answer["routes"][0]["legs"][0]["length"]) == wanted
         shown = "[...document.querySelectorAll('#modes label')].filter((each) => !each.hidden).map((each) => each.textContent.trim())"
         assert browser.value(shown) == ["Route", "Isochrones"]
         text = " ".join(text_of(browser, "panel").split())
-        for part in ("from a library that a checker has proved", "Not proved, but tested: the nearest road", "Trusted: how the library was made WebAssembly, and the browser."):
+        for part in ("from a library that a checker has proved", "Not proved, but tested: the nearest road",
+                     "Trusted: how the library was made WebAssembly, and the browser."):
             assert part in text
+        quiet(browser)
 
 
 def unpacked(page: str, name: str) -> bytes:
-    """A part of a page."""
     return gzip.decompress(base64.b64decode(re.search(rf'id="{name}">([^<]*)</script>', page)[1]))
 
 
@@ -348,60 +327,33 @@ def columns_of(data: bytes) -> tuple[dict, dict[str, np.ndarray]]:
     return about, found
 
 
-def least_from(arcs: dict[int, list[tuple[int, int]]], start: int) -> dict[int, int]:
-    """Least lengths by a plain search."""
-    least, heap = {start: 0}, [(0, start)]
-    while heap:
-        length, node = heapq.heappop(heap)
-        for other, weight in arcs.get(node, ()) if length == least[node] else ():
-            if length + weight < least.get(other, math.inf):
-                least[other] = length + weight
-                heapq.heappush(heap, (length + weight, other))
-    return least
-
-
-class TestTheDocument:
-    """docs/liechtenstein.html, which tests/manual/page_anew compares with a new one."""
-
-    @pytest.mark.needs("chromium")
-    def test_its_routes_are_right(self, browser):
-        """By a plain search of the network that is in the page."""
-        page = DOCUMENT.read_text(encoding="utf-8")
-        assert DOCUMENT.stat().st_size < 1_000_000
-        about, columns = columns_of(unpacked(page, "network"))
-        starts = np.cumsum(columns["arcFrom"])
-        ends, arcs = starts + columns["arcTo"], {}
-        for start, end, weight in zip(starts.tolist(), ends.tolist(), columns["arcWeight"].tolist()):
-            arcs.setdefault(start, []).append((end, weight))
-        assert about["nodes"] == 2991 and "OpenStreetMap" in about["attribution"]
-        # places at the ends of edges are nodes
-        draw, points = random.Random(1), np.cumsum(columns["edgePoints"]) - columns["edgePoints"]
-        lons, lats = np.cumsum(columns["lons"]) / 1e7, np.cumsum(columns["lats"]) / 1e7
-        first = np.cumsum(columns["edgeArcs"]) - columns["edgeArcs"]
-        place_of = {}
-        for edge in range(len(points)):
-            arc = first[edge]
-            node = int(starts[arc] if columns["arcAlong"][arc] else ends[arc])
-            if node not in set(columns["splitNodes"].tolist()):
-                place_of[node] = (float(lons[points[edge]]), float(lats[points[edge]]))
-        nodes = draw.sample(sorted(place_of), 40)
-        opened(browser, DOCUMENT)
-        found = asked_routes(browser, [(place_of[start], place_of[end]) for start in nodes[:5] for end in nodes])
-        for (start, end), answer in zip(itertools.product(nodes[:5], nodes), found, strict=True):
-            assert answer["routes"][0]["legs"][0]["length"] == least_from(arcs, start)[end]
-        quiet(browser)
+@pytest.mark.needs("chromium")
+def test_the_documents_routes_are_right(browser):
+    """By a plain search of the network that is in the page, which tests/manual/page_anew compares with a new one."""
+    assert DOCUMENT.stat().st_size < 1_000_000
+    about, columns = columns_of(unpacked(DOCUMENT.read_text(encoding="utf-8"), "network"))
+    starts = np.cumsum(columns["arcFrom"])
+    ends, weights = starts + columns["arcTo"], np.full((2991, 2991), np.inf)
+    np.minimum.at(weights, (starts, ends), columns["arcWeight"])
+    assert about["nodes"] == 2991 and "OpenStreetMap" in about["attribution"]
+    points = np.cumsum(columns["edgePoints"]) - columns["edgePoints"]  # (places at the ends of edges are nodes)
+    places = np.column_stack([np.cumsum(columns[name])[points] / 1e7 for name in ("lons", "lats")]).tolist()
+    first = np.cumsum(columns["edgeArcs"]) - columns["edgeArcs"]
+    begins = np.where(columns["arcAlong"][first], starts[first], ends[first]).tolist()
+    place_of = {node: place for node, place in zip(begins, places) if node not in columns["splitNodes"]}
+    nodes = random.Random(1).sample(sorted(place_of), 40)
+    least = dijkstra(weights, indices=nodes[:5])[:, nodes]
+    opened(browser, DOCUMENT)
+    found = asked_routes(browser, [(place_of[start], place_of[end]) for start in nodes[:5] for end in nodes])
+    assert [answer["routes"][0]["legs"][0]["length"] for answer in found] == least.ravel().tolist()
+    quiet(browser)
 
 
 class TestTheCommand:
     @pytest.fixture
     def folder(self, tmp_path):
-        """A network of two nodes, its hierarchy, and a folder that stands for the library."""
-        (tmp_path / "t.nodes.csv").write_text("node,lon,lat\n1,0,0\n2,0.001,0\n")
-        (tmp_path / "t.arcs.csv").write_text("from,to,oneway,weight\n1,2,0,5\n")
-        run(TOOLS / "to_network", tmp_path / "t.nodes.csv", tmp_path / "t.arcs.csv", tmp_path / "n", "--attribution", "Firm")
-        (tmp_path / "t.arcs.csv").write_text("from,to,oneway,weight\n1,2,0,6\n")
-        run(TOOLS / "to_network", tmp_path / "t.nodes.csv", tmp_path / "t.arcs.csv", tmp_path / "other")
-        domethyme.prepare(tmp_path / "n.gr", tmp_path / "n.rch", workers=1).close()
+        for weight, *words, name in ((5, "--attribution", "Firm", "n"), (6, "other")):
+            made_in(tmp_path, [(1, 0, 0), (2, 0.001, 0)], [(1, 2, 0, weight, "", "", "")], *words, name=name)
         (tmp_path / "web").mkdir()
         (tmp_path / "web/domethyme.wasm").write_bytes(b"module")
         shutil.copy(ROOT / "packaging/web/domethyme.js", tmp_path / "web")
@@ -410,32 +362,28 @@ class TestTheCommand:
     def test_a_page(self, folder):
         words = [TOOLS / "page", folder / "n", folder / "n.rch", folder / "a.html", "--attribution", "© Us"]
         run(*words, DOMETHYME_WEB=str(folder / "web"))
-        page = (folder / "a.html").read_text(encoding="utf-8")
-        assert unpacked(page, "module") == b"module"
-        assert unpacked(page, "hierarchy") == columns_of_hierarchy((folder / "n.rch").read_bytes(), "n.rch")
-        about = columns_of(unpacked(page, "network"))[0]
+        text = (folder / "a.html").read_text(encoding="utf-8")
+        assert unpacked(text, "module") == b"module"
+        assert unpacked(text, "hierarchy") == columns_of_hierarchy((folder / "n.rch").read_bytes(), "n.rch")
+        about = columns_of(unpacked(text, "network"))[0]
         assert [about[name] for name in ("attribution", "box", "nodes", "hasSeconds")] == ["Firm, © Us", [0, 0, 0.001, 0], 2, False]
-        policy = re.search(r'Content-Security-Policy" content="([^"]*)"', page)[1]
+        policy = re.search(r'Content-Security-Policy" content="([^"]*)"', text)[1]
         for kind in ("script", "style"):
-            text = re.findall(rf"<{kind}>(.*?)</{kind}>", page, re.S)
-            assert len(text) == 1
-            digest = base64.b64encode(hashlib.sha256(text[0].encode()).digest()).decode()
-            assert f"{kind}-src 'sha256-{digest}'" in policy
+            [part] = re.findall(rf"<{kind}>(.*?)</{kind}>", text, re.S)
+            assert f"{kind}-src 'sha256-{base64.b64encode(hashlib.sha256(part.encode()).digest()).decode()}'" in policy
         assert "default-src 'none'" in policy and "connect-src" not in policy
-        before = page
         run(*words, "--library", folder / "web", "--compare-all", DOMETHYME_WEB="none")
-        assert (folder / "a.html").read_text(encoding="utf-8") == before
+        assert (folder / "a.html").read_text(encoding="utf-8") == text
 
     @pytest.mark.parametrize("words, status, says", [
-        (["n", "n.rch", "a.html", "--library", "none"], 1, "has no domethyme.wasm: packaging/build-web makes it"),
-        (["n", "n.rch", "a.txt"], 2, "OUT doesn't end in .html"),
-        (["n", "t.nodes.csv", "a.html", "--library", "web"], 4, "t.nodes.csv: is no file that `routecli prepare` wrote"),
-        (["other", "n.rch", "a.html", "--library", "web"], 1, "n.rch: is the hierarchy of another network than"),
-        (["n.co", "n.rch", "a.html", "--library", "web"], 1, "has no roads but nodes"),
-        (["none", "n.rch", "a.html", "--library", "web"], 1, "none"), (["n", "none.rch", "a.html", "--library", "web"], 7, "none.rch: No such file"),
+        ("n n.rch a.html --library none", 1, "has no domethyme.wasm: packaging/build-web makes it"),
+        ("n n.rch a.txt", 2, "OUT doesn't end in .html"), ("n none.rch a.html --library web", 7, "none.rch: No such file"),
+        ("n t.nodes.csv a.html --library web", 4, "t.nodes.csv: is no file that `routecli prepare` wrote"),
+        ("other n.rch a.html --library web", 1, "n.rch: is the hierarchy of another network than"),
+        ("n.co n.rch a.html --library web", 1, "has no roads but nodes"), ("none n.rch a.html --library web", 1, "none"),
     ])
     def test_input_that_is_refused(self, folder, words, status, says):
-        given = [word if word.startswith("--") else folder / word for word in words]
+        given = [word if word.startswith("--") else folder / word for word in words.split()]
         ended = run(TOOLS / "page", *given, status=status)
         assert says in ended.stderr and not (folder / "a.html").exists()
 
@@ -458,18 +406,23 @@ class TestTheCommand:
             with pytest.raises(HierarchyError, match="is no whole hierarchy file of version 2"):
                 columns_of_hierarchy(other, "n.rch")
 
-    def test_a_network_that_is_too_large(self, folder, monkeypatch, capsys):
-        from domethyme_tools import page
+    def test_a_network_that_is_too_large(self, folder, monkeypatch):
+        assert page.MOST_NODES == 300_000
+        words = "page", *(folder / name for name in ("n", "n.rch", "a.html"))
+        says = "has 2 nodes, and a page has at most 1: a larger map needs a page that is served"
+        for most, refused in ((1, pytest.raises(ToolError, match=says)), (2, contextlib.nullcontext())):
+            monkeypatch.setattr(page, "MOST_NODES", most)
+            with refused:
+                run_tool(*words, "--library", folder / "web")
+            assert (folder / "a.html").exists() == (most == 2)
 
-        assert MOST_NODES == 300_000
-        monkeypatch.setattr(page, "MOST_NODES", 1)
-        monkeypatch.setattr("sys.argv", ["page", str(folder / "n"), str(folder / "n.rch"), str(folder / "a.html"), "--library", str(folder / "web")])
-        with pytest.raises(ToolError, match="has 2 nodes, and a page has at most 1: a larger map needs a page that is served"):
-            page.main()
-        assert not (folder / "a.html").exists()
-        monkeypatch.setattr(page, "MOST_NODES", 2)
-        page.main()
-        assert (folder / "a.html").exists()
+    def test_which_library_is_found(self, folder, monkeypatch):
+        monkeypatch.delenv("DOMETHYME_WEB", raising=False)
+        shutil.copy(folder / "web/domethyme.wasm", folder)
+        for inside, built, found in (("web", ".", "web"), ("none", "web", "web")):
+            monkeypatch.setattr(page, "INSIDE", folder / inside)
+            monkeypatch.setattr(page, "BUILT", folder / built)
+            assert page.find_library(None) == folder / found
 
 
 @drawn(100)
@@ -487,13 +440,12 @@ def test_arcs_of_one_weight(drawn_arcs):
     assert set(found) == wanted and len(found) == len(wanted)
 
 
-@pytest.mark.parametrize("modules, says", [
-    ({"a.js": 'import * as b from "./b.js";\n', "b.js": ""}, "a.js: has a form that can't be joined: import * as b"),
-    ({"a.js": 'import { b } from "./b.js";\n', "b.js": "export const c = 1;\n"}, "b.js: exports no b, which a.js imports"),
-    ({"a.js": "export default 1;\n"}, "a.js: has a form that can't be joined: export default 1"),
-    ({"a.js": 'const b = await import("./b.js");\n'}, "a.js: has a form that can't be joined: import("),
+@pytest.mark.parametrize("text, says", [
+    ('import * as b from "./b.js";\n', "a.js: has a form that can't be joined: import * as b"),
+    ('import { b } from "./b.js";\n', "b.js: exports no b, which a.js imports"),
+    ("export default 1;\n", "a.js: has a form that can't be joined: export default 1"),
+    ('const b = await import("./b.js");\n', "a.js: has a form that can't be joined: import("),
 ])
-def test_modules_that_can_not_be_joined(modules, says):
-    with pytest.raises(ToolError) as caught:
-        bundled(modules, "a.js")
-    assert str(caught.value).startswith(says)
+def test_modules_that_can_not_be_joined(text, says):
+    with pytest.raises(ToolError, match=re.escape(says)):
+        bundled({"a.js": text, "b.js": "export const c = 1;\n"}, "a.js")
