@@ -4,7 +4,6 @@ import hashlib
 import html
 import itertools
 import json
-import math
 import re
 import xml.etree.ElementTree as xml
 from unittest import mock

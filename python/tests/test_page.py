@@ -419,10 +419,10 @@ class TestTheCommand:
     def test_which_library_is_found(self, folder, monkeypatch):
         monkeypatch.delenv("DOMETHYME_WEB", raising=False)
         shutil.copy(folder / "web/domethyme.wasm", folder)
-        for inside, built, found in (("web", ".", "web"), ("none", "web", "web")):
+        for inside, beside in (("web", "."), ("none", "web")):
             monkeypatch.setattr(page, "INSIDE", folder / inside)
-            monkeypatch.setattr(page, "BUILT", folder / built)
-            assert page.find_library(None) == folder / found
+            monkeypatch.setattr(page, "BUILT", folder / beside)
+            assert page.find_library(None) == folder / "web"
 
 
 @drawn(100)
