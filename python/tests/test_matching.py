@@ -24,7 +24,6 @@ from tool_case import VILLAGE
 import domethyme
 from domethyme.network.legs import Leg
 from domethyme.network.matching import Matcher, Trace, nearest_marks, parts_of
-from domethyme_tools.cli import ToolError
 
 STEP = 111.195
 
@@ -101,7 +100,7 @@ BESIDE = "lon,lat\n0.0003,0.0003\n0.0008,0.0003\n"
 ])
 def test_tool(village, tmp_path, text, words, wanted):
     out = tmp_path / "out"
-    with contextlib.nullcontext() if isinstance(wanted, int) else pytest.raises(ToolError, match=re.escape(wanted)):
+    with contextlib.nullcontext() if isinstance(wanted, int) else pytest.raises(domethyme.FileError, match=re.escape(wanted)):
         run_tool("match", village.network.prefix, village.path, "-", *words, "-o", out, given=text)
         assert len(json.loads(out.read_text())["features"]) == wanted
     assert out.exists() == isinstance(wanted, int)
