@@ -26,7 +26,7 @@ sys.path.insert(0, str(ROOT / "packaging"))
 from readme_session import blocks, session  # noqa: E402
 
 PAGE, PYTHON_PAGE, OWN_DATA, FROM_OSRM = (
-    (ROOT / f"docs/{name}.md").read_text(encoding="utf-8") for name in ("OPERATING", "PYTHON", "OWN_DATA", "FROM_OSRM")
+    (ROOT / "docs" / name).read_text(encoding="utf-8") for name in ("OPERATING.md", "PYTHON.md", "OWN_DATA.md", "FROM_OSRM.md")
 )
 PLACE = "/route/v1/{}/0.001,0;0.012,0?overview=false&generate_hints=false"
 REFRESH = ROOT / "packaging/container/refresh"
