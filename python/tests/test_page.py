@@ -131,10 +131,11 @@ def length_of(lines) -> float:
     return sum(math.dist(begin, end) for line in lines for begin, end in itertools.pairwise(line) if abs(begin[0] - end[0]) < 180)
 
 
+@pytest.mark.needs("nodejs")
+@pytest.mark.needs("wasm-opt")
+@pytest.mark.needs("wasm-objdump")
 class TestRules:
     """Nearest roads, parts of arcs, streets, reach and tiles are those of the service, and the hierarchy is the file's."""
-
-    pytestmark = [pytest.mark.needs(program) for program in ("nodejs", "wasm-opt", "wasm-objdump")]
 
     def test_hierarchy_in_the_page(self, network, tmp_path):
         """And those without links."""
@@ -244,9 +245,10 @@ def village(tmp_path_factory):
     return folder
 
 
+@pytest.mark.needs("chromium")
+@pytest.mark.needs("wasm-opt")
+@pytest.mark.needs("wasm-objdump")
 class TestInABrowser:
-    pytestmark = [pytest.mark.needs(program) for program in ("chromium", "wasm-opt", "wasm-objdump")]
-
     @pytest.mark.parametrize("width, height", [(1280, 800), (390, 780), (820, 1180), (1920, 1080)])
     def test_a_route_by_clicks(self, village, browser, width, height):
         """Two clicks on High Street: from 1 to 3 they are 4 steps, of 111.195 m, at 50 km/h by its profile."""
