@@ -82,11 +82,11 @@ class TestWholeFiles:
             stack.enter_context(mock.patch.object(os, "umask", side_effect=AssertionError))
             self.write_all("old")
         assert stat.S_IMODE(os.stat("first").st_mode) == 0o640
-        os.chmod("first", 0o604)
+        os.chmod("first", 0o666)
         os.rename("second", "elsewhere")
         os.symlink("elsewhere", "second")
         self.write_all("new")
-        assert stat.S_IMODE(os.stat("first").st_mode) == 0o604 and os.path.islink("second")
+        assert stat.S_IMODE(os.stat("first").st_mode) == 0o666 and os.path.islink("second")
         assert texts() == dict.fromkeys((*WHOLE, "elsewhere"), "new")
 
 
