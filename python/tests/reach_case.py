@@ -68,7 +68,7 @@ def lengths(net, starts, towards=False):
     arcs = [[] for _ in range(len(net.node_lon))]
     for begin, end, weight in zip(begins[:].tolist(), ends[:].tolist(), net.arc_weight[:].tolist()):
         arcs[begin].append((weight, end))
-    found = cheapest(((added, node) for node, added in starts.items()), arcs.__getitem__)
+    found = cheapest(((added, node) for node, added in starts.items()), arcs)
     return np.array([found.get(node, -1) for node in range(len(arcs))])
 
 
