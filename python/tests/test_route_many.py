@@ -573,7 +573,7 @@ class TwoCallsTests(RouteManyCase):
 
     def test_files_of_others_are_left_alone(self):
         (self.folder / "out.parts/drafts-mine").mkdir(parents=True)
-        for name in ["notes", "drafts-mine/notes", "1.answers"]:
+        for name in ["notes", "drafts-mine/notes", "1.answers", "000000.answers.log", "000003.pairs.gz", "plan.json.bak"]:
             self.write(f"out.parts/{name}", "of another\n")
         others = self.contents()
         self.many("--jobs", 2, "--restart")
