@@ -27,7 +27,8 @@ def village(tmp_path_factory):
 
 def test_a_map_in_one_call(village, monkeypatch):
     hierarchy, told, out = village
-    assert [what for what in dict.fromkeys(what for what, _, _ in told)][:3] == ["ways", "places", "roads"]
+    begun = [*dict.fromkeys(what for what, _, _ in told if not what.startswith("building"))]  # (the converter, in a fresh clone)
+    assert begun[:3] == ["ways", "places", "roads"]
     assert all(0 <= done <= total for _, done, total in told) and told[-1][0] in ("files", "prepare")
     with domethyme.open(out) as again, domethyme.open(f"{out}.rch") as third:
         assert domethyme.open(f"{out}.net").path == domethyme.open(f"{out}.gr").path == third.path

@@ -66,7 +66,8 @@ class ToolCase(unittest.TestCase):
         """Wants status 1, one line on standard error with the text `says`, nothing written, and the folder as it was."""
         before = self.contents()
         ended = self.run_tool(tool, *words, status=1, given=given, environment=environment)
-        assert re.fullmatch(f"{tool}: .*{re.escape(says)}.*\n", ended.stderr), ended.stderr
+        rest = "" if says.endswith("\n") else ".*\n"
+        assert re.fullmatch(f"{tool}: .*{re.escape(says)}{rest}", ended.stderr), ended.stderr
         assert (ended.stdout, self.contents()) == ("", before)
 
     def contents(self):
