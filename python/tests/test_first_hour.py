@@ -1,6 +1,7 @@
 """A newcomer's first hour: a map in one call, progress, frames, pictures, and what is said of what nobody can have meant."""
 import importlib.machinery
 import importlib.util
+import itertools
 import json
 import re
 import sys
@@ -74,13 +75,14 @@ def test_progress_of_what_takes_long(tmp_path):
         domethyme.prepare(tmp_path / "bad.gr", tmp_path / "bad.rch", progress=lambda *now: None)
 
 
-def test_bars(capsys):
+def test_bars(capsys, monkeypatch):
     """Of what is done and how much there is; and of a single step the time."""
+    monkeypatch.setattr("tqdm.std.time", itertools.count(0, 61).__next__)  # (each look at the clock is a minute later)
     with reporting(True) as report:
         for now in (("ways", 0, 20), ("ways", 5, 20), ("ways", 20, 20), ("files", 0, 1), ("files", 1, 1)):
             report(*now)
     said = capsys.readouterr().err
-    assert re.search(r"ways: 100%\|.*\| 20.0/20.0 \[", said) and re.search(r"files \[\d\d:\d\d\]\n$", said), said
+    assert re.search(r"ways: 100%\|.*\| 20.0/20.0 \[", said) and re.search(r"files \[0[1-9]:\d\d\]\n$", said), said
 
 
 def test_what_notebooks_and_others_know(village):
