@@ -289,8 +289,9 @@ class Draw(ToolCase):
             "#8b877f", "#a8cde1", "evenodd"]
         assert texts_at(drawn)[::2] == texts_at(drawn, "./g/g/title") == ["200 m", "2.5 min", "7", "area 4"]
         assert [rect.get("fill") for rect in drawn.findall("./g[@transform]/rect")[1:]] == [path.get("fill") for path in areas]
-        found = [each["area"] for each in self.page_of(*features, words=[])[1]["routes"]]
-        assert [(each["colour"], len(each["rings"])) for each in found] == wanted
+        data, (lons, lats) = self.page_of(*features, words=[])[1], zip(*ACROSS)
+        assert [(each["area"]["colour"], len(each["area"]["rings"])) for each in data["routes"]] == wanted
+        assert data["bounds"] == [[min(lats), min(lons)], [max(lats), max(lons)]]
         assert texts_at(self.picture_of(features[0]), "./g/g/title") == ["<b>"]
 
     def test_corners(self):
