@@ -252,15 +252,16 @@ def test_features(made_town):
     """Rings are as RFC 7946 has them, with six decimals; lines are the rings; and what is denoised is the largest part."""
     net, _ = made_town
     reach = Reach(net, lengths(net, {300: 0}), isochrones.limits(net.unit, [0.5, 1, 1.5]))
-    found, lines, plain = (features(reach, [0.5, 1, 1.5], "time", style) for style in (Style(), Style("lines"), Style(denoise=1)))
-    geometries = [[each["geometry"] for each in some["features"]] for some in (found, lines, plain)]
-    assert list(found) == ["type", "features"] and [len(some[0]["coordinates"]) > 1 for some in geometries[::2]] == [True, False]
-    for geometry, line in zip(*geometries[:2], strict=True):
-        polygons = [geometry["coordinates"]] if geometry["type"] == "Polygon" else geometry["coordinates"]
-        assert shape(geometry).is_valid and line == multi_geometry("LineString", [ring for polygon in polygons for ring in polygon])
-        for part in (Polygon(outer, holes) for outer, *holes in polygons):
-            assert part.exterior.is_ccw and not any(hole.is_ccw for hole in part.interiors)
-        assert all(value == round(value, DECIMALS) for polygon in polygons for ring in polygon for point in ring for value in point)
+    for words in ({}, {"denoise": 1}, {"generalize": 40, "denoise": 0.5}):
+        found, lines = (features(reach, [0.5, 1, 1.5], "time", Style(form, **words)) for form in ("polygons", "lines"))
+        geometries = [[each["geometry"] for each in some["features"]] for some in (found, lines)]
+        assert list(found) == ["type", "features"] and (len(geometries[0][0]["coordinates"]) > 1) == (not words)
+        for geometry, line in zip(*geometries, strict=True):
+            polygons = [geometry["coordinates"]] if geometry["type"] == "Polygon" else geometry["coordinates"]
+            assert shape(geometry).is_valid and line == multi_geometry("LineString", [ring for polygon in polygons for ring in polygon])
+            for part in (Polygon(outer, holes) for outer, *holes in polygons):
+                assert part.exterior.is_ccw and not any(hole.is_ccw for hole in part.interiors)
+            assert all(value == round(value, DECIMALS) for polygon in polygons for ring in polygon for point in ring for value in point)
 
 
 def test_nothing_is_reached(made_town):
