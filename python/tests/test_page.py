@@ -362,13 +362,13 @@ class TestTheCommand:
         return tmp_path
 
     def test_a_page(self, folder):
-        words = [TOOLS / "page", folder / "n", folder / "n.rch", folder / "a.html", "--attribution", "© Us"]
+        words = [TOOLS / "page", folder / "n", folder / "n.rch", folder / "a.html", "--attribution", "© Us & 'Co'"]
         run(*words, DOMETHYME_WEB=str(folder / "web"))
         text = (folder / "a.html").read_text(encoding="utf-8")
         assert unpacked(text, "module") == b"module"
         assert unpacked(text, "hierarchy") == columns_of_hierarchy((folder / "n.rch").read_bytes(), "n.rch")
         about = columns_of(unpacked(text, "network"))[0]
-        assert [about[name] for name in ("attribution", "box", "nodes", "hasSeconds")] == ["Firm, © Us", [0, 0, 0.001, 0], 2, False]
+        assert [about[name] for name in ("attribution", "box", "nodes", "hasSeconds")] == ["Firm, © Us & 'Co'", [0, 0, 0.001, 0], 2, False]
         policy = re.search(r'Content-Security-Policy" content="([^"]*)"', text)[1]
         for kind in ("script", "style"):
             [part] = re.findall(rf"<{kind}>(.*?)</{kind}>", text, re.S)
