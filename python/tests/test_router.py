@@ -219,3 +219,5 @@ def test_without_numpy(path):
     """One question at a time needs Python alone; what needs more says so by ImportError."""
     says = "this call needs numpy, which is missing: pip install 'domethyme[arrays]', or Debian's python3-numpy\n"
     assert run_python(WITHOUT_NUMPY, path).stdout == "2 ['a', 'b', 'c'] 8\n" + 3 * says
+    without_pandas = 'import sys\nsys.modules["pandas"] = None\nfrom domethyme import *\nprint(Network.__name__, Routes.__name__)'
+    assert run_python(without_pandas).stdout == "Network Routes\n"
