@@ -52,7 +52,8 @@ def test_lines_of_places() -> None:
     """The example of the format, and the corners of the earth."""
     example = [(-120.2, 38.5), (-120.95, 40.7), (-126.453, 43.252)]
     assert decode_polyline("_p~iF~ps|U_ulLnnqC_mqNvxq`@", 5) == example
-    for digits, line in ((5, example), (6, example), (6, [(-180.0, -90.0), (180.0, 90.0), (-0.000001, 0.0), (0.0, -0.000001)])):
+    corners = [(digits, [(-180.0, -90.0), (180.0, 90.0), (-(10.0**-digits), 0.0), (0.0, -(10.0**-digits))]) for digits in (5, 6)]
+    for digits, line in ((5, example), (6, example), *corners):
         text, = encode_polylines(line, digits, np.array([0]), np.array([len(line)]))
         assert decode_polyline(text, digits) == decoded(text, "polyline6" if digits == 6 else "polyline") == line
 

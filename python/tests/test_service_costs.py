@@ -289,6 +289,16 @@ class Waiting:
             yield
 
 
+def test_a_worker_that_ends_answers_all_that_wait():
+    """Also where that takes longer than the second in which heads may still come."""
+    case = Waiting(0.8)
+    case.worker.alive, case.worker.sockets, case.worker.PIPE = False, [mock.Mock()], (0, 1)
+    case.worker.queue += [case.connection(A, True, 4, "POST"), case.connection(), case.connection(B)]
+    with case.clock(), mock.patch.object(worker.select, "epoll", mock.MagicMock):
+        case.worker.run()
+    assert (len(case.served), case.refused, case.worker.queue) == (3, [], [])
+
+
 @pytest.mark.parametrize("seconds, served", [(9.0, 1), (0.1, 10)])
 def test_nobody_waits_longer_than_its_limit(seconds, served):
     """Of ten requests one is answered in each turn. Those that have waited for five seconds are refused, though the worker is at
