@@ -219,6 +219,9 @@ def test_the_service(convert):
     service, path = serve(pathlib.Path("net"), excluded), "/route/v1/car/0.0001,0;0.0399,0?overview=false"
     words = "", "&exclude=toll", "&exclude=tunnel,toll", "&exclude=toll,tunnel"
     assert len({ask(service, path + more)[1]["routes"][0]["weight"] for more in words}) == 1
+    for towards, status in ((True, 200), (False, 400)):
+        one = serve(pathlib.Path("net"), excluded, towards=towards)
+        assert {ask(one, f"/isochrone/v1/car/0.005,0?contours_minutes=1&reverse=true{more}")[0] for more in words} == {status}
     for code, some in (("NotImplemented", ("motorway", "tunnel")), ("InvalidValue", ("toll,toll", "roads"))):
         for status, found in (ask(service, f"{path}&exclude={each}") for each in some):
             assert (status, found["code"]) == (400, code)
