@@ -227,7 +227,7 @@ class BrowserTests(ServiceCase):
             self.assertTrue(access.is_address(name, local), (name, local))
         self.assertFalse(access.is_address("10.0.0.8", "10.0.0.7") or access.is_address("localhost", "10.0.0.7"))
         for name, host, is_allowed in (("Routes.Example", "routes.example:443", True), ("Routes.Example.", "routes.example.", True),
-                                       ("*", "other", True), ("*", "a b", False)):
+                                       ("road_router~1", "road_router~1:5000", True), ("*", "other", True), ("*", "a b", False)):
             self.assertEqual(access.AccessPolicy.from_options([name], "none").allows_host(host, "10.0.0.7"), is_allowed)
 
 
