@@ -80,7 +80,8 @@ def columns_of(pairs: Any, known: Sequence[tuple[str, str]]) -> list[Any] | None
 
 def split(pairs: Iterable[Any]) -> tuple[list[Hashable], list[Hashable]]:
     try:
-        rows = [(source, target) for source, target in pairs]
+        # (a text of two letters is no row)
+        rows = [(source, target) for row in pairs for source, target in [() if isinstance(row, str) else row]]
     except (TypeError, ValueError):
         raise ValueError("pairs have to be rows of two nodes") from None
     return [row[0] for row in rows], [row[1] for row in rows]

@@ -268,7 +268,7 @@ def test_keys_given_as_numbers_arrays_or_mappings(square, keys):
     with domethyme.Hierarchy(square.path, keys=keys) as hierarchy:
         assert [each.tolist() for each in hierarchy.routes([[7, 9], [1 << 40, 7]])[1:]] == [[1 << 40, -5, 7]]
         assert hierarchy.length(np.int64(1 << 40), -5) == 3
-        for pairs in (5, None, [7, 9], np.array([7, 9]), [[7, 9, 7]], [(7, 9), None]):
+        for pairs in (5, None, [7, 9], np.array([7, 9]), [[7, 9, 7]], [(7, 9), None], ["ab"], np.array(["ab", "cd"])):
             with pytest.raises(ValueError, match="rows of two nodes"):
                 hierarchy.lengths(pairs)
         for key in (pd.NA, np.zeros((2, 2)), np.array([7])):
