@@ -59,6 +59,10 @@ class Drawn(NamedTuple):
     has_keys: bool
 
 
+def key_of(number: int) -> str:
+    return f"node {number}" if number % 2 else f'B\xf6"\\{number}'
+
+
 @st.composite
 def networks(draw: Any, kinds: Sequence[str] = KINDS, most: int = 8, origins: Sequence[Point] = ORIGINS) -> Drawn:
     origin, kind, has_keys = draw(st.sampled_from(origins)), draw(st.sampled_from(kinds)), draw(st.booleans())
@@ -69,7 +73,7 @@ def networks(draw: Any, kinds: Sequence[str] = KINDS, most: int = 8, origins: Se
         is_there_again = draw(st.integers(0, 9)) == 0  # (two junctions that are split in one place differ by their ids)
         point = points[draw(st.integers(0, number))] if is_there_again else point
         is_there_again |= point in [node.place for node in nodes]
-        key = f"node {number}" if has_keys else str(number + 1)
+        key = key_of(number) if has_keys else str(number + 1)
         osm = 40 + number if is_there_again else draw(st.sampled_from([None, 40 + number]))
         nodes.append(Node(point[0], point[1], key, osm))
     arcs: list[Arc] = []
@@ -97,7 +101,7 @@ def networks(draw: Any, kinds: Sequence[str] = KINDS, most: int = 8, origins: Se
     has_ring = draw(st.integers(0, 3)) == 0  # (at the end of a road of the same name)
     if has_ring:
         end, inner = draw(st.integers(0, count - 1)), [draw(points_near(origin, scale)) for _ in range(3)]
-        nodes.append(Node(*inner[0], f"node {count}" if has_keys else str(count + 1)))
+        nodes.append(Node(*inner[0], key_of(count) if has_keys else str(count + 1)))
         texts = draw(st.sampled_from(NAMES)), "", "", "", HIGHWAYS[0]
         for way, other, line in ((2 * most + 1, end, (inner[0], nodes[end].place)), (2 * most + 2, count, (*inner, inner[0]))):
             arcs.append(draw_arc(draw, kind, count, other, line, (way, *texts)))
