@@ -80,7 +80,8 @@ def test_numbers_are_those_of_std(digits, most):
 
 
 @pytest.mark.parametrize("values, text", [
-    ([0.0005, -1.0, np.nan, 2.25], "[0.0,-1.0,null,2.25]"), ([1e300, np.nan, 1.5], "[1e+300,null,1.5]"), ([], "[]"),
+    ([0.0005, -1.0, np.nan, 2.25], "[0.0,-1.0,null,2.25]"), ([1e300, np.nan, 1.50049], "[1e+300,null,1.5]"), ([], "[]"),
 ])
 def test_decimals(values, text):
-    assert decimal_texts(np.array(values, float), 3).array(0, len(values)) == text
+    found = decimal_texts(np.array(values, float), 3)
+    assert (found.array(0, len(values)), f"[{','.join(found.all_rows())}]", found.array(0, 0)) == (text, text, "[]")

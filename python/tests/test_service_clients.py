@@ -40,8 +40,9 @@ REQUESTS = [
     # other forms
     (f"/route/v1/driving/{HIGH}?alternatives=false&overview=full&geometries=polyline6", {}),
     ("/route/v1/driving/polyline(_ibE_seK_seK_seK)?generate_hints=false&radiuses=unlimited;unlimited", {}),
-    ("/route/v1/driving/polyline6(_ibE_seK_seK_seK).json?radiuses=unlimited;unlimited", {}),
-    ("/table/v1/driving/polyline(A{@?g^)?annotations=duration,distance", {}),  # (of one latitude, as a client sends it that escapes nothing)
+    # (of one latitude, as a client sends it that escapes nothing)
+    ("/route/v1/driving/polyline6(A{@?g^).json?radiuses=unlimited;unlimited", {}),
+    ("/table/v1/driving/polyline(A{@?g^)?annotations=duration,distance", {}),
     (f"/route/v1/driving/{HIGH}.json?continue_straight=true&approaches=unrestricted;&bearings=;", {}),
     ("/route/v1/driving/0.00030000000000000003,1e-5;+7.7E-3,-.00002", {}),
     (f"/route/v1/car/{urllib.parse.quote(HIGH, safe='')}?skip_waypoints=true", {"Connection": "Close"}),

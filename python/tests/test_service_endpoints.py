@@ -31,7 +31,7 @@ def test_names_and_statuses():
     """Each endpoint has a name of its own, and each status of the package a counter."""
     assert len(endpoints.BY_NAME) == len(endpoints.ENDPOINTS)
     text = "".join(path.read_text() for path in (TOOLS.parent / "python/domethyme_service").glob("*.py"))
-    found = {int(number) for number in re.findall(r"(?:RequestError|Response|make_response)\(\s*([1-5]\d\d),", text)}
+    found = {int(error or other) for error, other in re.findall(r"RequestError[(,]\s*([1-5]\d\d)|Response\(.*, ([1-5]\d\d)\)", text)}
     assert len(found) > 9 and found <= {*metrics.STATUSES}
 
 
@@ -117,23 +117,35 @@ class EndpointTests(ServiceCase):
         self.assertEqual([fits(value, shapes["Health"], shapes) for value in (health, *others)], [True, *[False] * 5])
 
 
+# The old names of metrics.
+OLD = {
+    "fronts": "workers", "questions_total": "queries_total", "front_restarts_total": "worker_restarts_total",
+    "front_silences_total": "worker_timeouts_total", "reloads_refused_total": "reload_failures_total",
+    "work_stopped_total": "requests_cancelled_total"
+}
+BOUNDS = "0.001 0.0025 0.005 0.01 0.025 0.05 0.1 0.25 0.5 1.0 2.5 5.0 10.0 30.0".split()
+
+
 def test_metrics_of_several_processes():
     """Sums of all, and the memory of the largest. A time at a bound is in its bucket; only what is called so is a total."""
-    found = metrics.SharedMetrics(4)
-    for row, process, seconds in zip(found.rows[1:], (os.getpid(), os.getpid(), 1 << 30), (0.001, 0.0011, 30.5)):
-        row.count("/table", 200, seconds)
-        row.process, row.queries_total = process, 1_234_567
+    found, counts = metrics.SharedMetrics(4), {each.name: 1_234_567 * number for number, each in enumerate(metrics.METRICS, 1)}
+    for row, process in zip(found.rows[1:], (os.getpid(), os.getpid(), 1 << 30)):
+        row.process, row.reported = process, 5
+        for name, count in counts.items():
+            setattr(row, name, count)
+    for seconds in map(float, BOUNDS):
+        found.rows[1].count("/table", 200, seconds)
+    found.rows[2].count("/table", 503, 30.5)
     text = found.text(7)
     values = dict(line.removeprefix("domethyme_").rsplit(" ", 1) for line in text.splitlines() if line[0] != "#")
-    names = [f'bucket{{endpoint="/table",le="{bound}"}}' for bound in ("0.001", "0.0025", "30.0", "+Inf")]
-    times = [values[f"request_seconds_{name}"] for name in (*names, 'count{endpoint="/table"}', 'sum{endpoint="/table"}')]
-    assert times == ["1", "2", "2", "3", "3", "30.502100"]
-    assert [values[name] for name in ("nodes", "queries_total", "questions_total")] == ["7", "3703701", "3703701"]
-    assert float(values["resident_memory_bytes"]) == pytest.approx(1024 * resident(os.getpid()), rel=0.1)
-    kinds = re.findall(r"(?m)^# TYPE domethyme_(\S+) (\S+)$", text)
-    old = "fronts questions_total front_restarts_total front_silences_total reloads_refused_total work_stopped_total"
-    assert {*old.split()} <= {*dict(kinds)}
-    for name, kind in kinds:
+    assert float(values.pop("resident_memory_bytes")) == pytest.approx(1024 * resident(os.getpid()), rel=0.1)
+    wanted = {**{name: 3 * count for name, count in counts.items() if name != "resident_memory_bytes"}, "nodes": 7, "build_info{}": 1}
+    wanted |= {old: wanted[name] for old, name in OLD.items()}
+    wanted |= {f'request_seconds_bucket{{endpoint="/table",le="{bound}"}}': at for at, bound in enumerate([*BOUNDS, "+Inf"], 1)}
+    wanted |= {f'request_seconds_{name}{{endpoint="/table"}}': each for name, each in (("count", 15), ("sum", "79.943500"))}
+    wanted |= {f'requests_total{{endpoint="/table",status="{status}"}}': count for status, count in ((200, 14), (503, 1))}
+    assert values == {name: str(each) for name, each in wanted.items()}
+    for name, kind in re.findall(r"(?m)^# TYPE domethyme_(\S+) (\S+)$", text):
         assert kind == ("histogram" if name == "request_seconds" else "counter" if name.endswith("_total") else "gauge")
 
 
