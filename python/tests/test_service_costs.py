@@ -1,6 +1,7 @@
 """What requests cost, by counts; who gets slots, and what a worker does with requests that wait, by a clock of the test's own."""
 import collections
 import contextlib
+import fcntl
 import functools
 import itertools
 import json
@@ -38,35 +39,18 @@ from domethyme_service.slots import Client, Slots
 BIG = Size(534_105, 2_600_000, 4.03, 1.58)
 A, B, OTHER = Client("203.0.113.9", True), Client("203.0.113.10", True), Client("10.0.0.1", False)
 DRAW = random.Random(1)
-FAR = [f"{DRAW.uniform(8.36, 9.64):.3f},{DRAW.uniform(46.55, 47.45):.3f}" for _ in range(1000)]
+FAR = [f"{DRAW.uniform(8.36, 9.64):.3f},{DRAW.uniform(46.55, 47.45):.3f}" for _ in range(5)]
 
 
-def cost(service, count, query, places=FAR, size=BIG):
-    """The cost of a request by the first of these places on that map, in units."""
-    path = f"/{service}/v1/car/{';'.join(places[:count])}"
+def cost(size, service, places, query, unit):
+    """The cost of a request, where this is what weights are, in units."""
+    path = f"/{service}/v1/car/{';'.join(places)}"
     endpoint = endpoints.find_endpoint(path)
-    request = parse_request(endpoint, path, dict(word.split("=") for word in query.split("&") if word), 1000.0)
-    return endpoint.formula(expected(size, request.places, request.values, "duration"))
+    request = parse_request(endpoint, path, query, 1000.0)
+    return endpoint.formula(expected(size, request.places, request.values, unit))
 
 
-ALL = "steps=true&annotations=true&overview=full"
 TWICE = "sources=" + "0;" * 99 + "0&destinations=" + "1;" * 99 + "1"
-
-
-@pytest.mark.parametrize("service, count, query, low, high", [
-    ("route", 2, "", 0, SHORT), ("route", 2, ALL, 0, SHORT), ("route", 500, "overview=false", SHORT, MOST),
-    # (as a polyline these are of 570 bytes: how long a path is decides nothing)
-    ("route", 60, ALL, SHORT, MOST), ("route", 500, ALL, MOST, math.inf),
-    ("table", 110, "bearings=" + "45,0;" * 109 + "45,0", SHORT, MOST), ("table", 2, f"annotations=distance&{TWICE}", 0, SHORT),
-    ("table", 2, f"sources={'0;' * 999}0&destinations={'1;' * 999}1", SHORT, MOST),
-    ("table", 100, "annotations=distance", 0, SHORT), ("table", 500, "annotations=distance", SHORT, MOST), ("table", 25, "", 0, SHORT), ("table", 1000, "", SHORT, MOST),
-    ("isochrone", 1, "contours_minutes=5", SHORT, MOST), ("isochrone", 1, "contours_minutes=600", SHORT, MOST),
-    ("nearest", 1, "number=100", 0, SHORT), ("match", 20, "", 0, MOST), ("match", 500, ALL, MOST, math.inf),
-], ids=itertools.count())
-def test_costs_on_a_map_of_half_a_million_nodes(service, count, query, low, high):
-    assert low < cost(service, count, query) <= high
-
-
 PAGE = (ROOT / "docs/SERVICE.md").read_text()
 # Texts of parameters that change what a request costs; of those that have a value for each place, for the first two.
 LINES = {"steps": ["true"], "overview": ["full", "false"], "annotations": ["true", "nodes,speed"]}
@@ -78,7 +62,7 @@ CHANGING = {
 }
 
 
-def cost_by_the_page(size, service, places, query):
+def cost_by_the_page(size, service, places, query, unit):
     """The same by the tables of docs/SERVICE.md."""
     count, known = len(places), collections.defaultdict(str, query)
     points = [(float(lon) % 360, float(lat)) for lon, lat in (each.split(",") for each in places)]
@@ -92,7 +76,7 @@ def cost_by_the_page(size, service, places, query):
     sides = [known[name].split(";") if known[name] else range(count) for name in ("sources", "destinations")]
     rows, columns = (len({*side}) for side in sides)
     others = min({"true": 1, "": 0, "9": 3}.get(known["alternatives"], 2), size.alternatives) if count == 2 else 0
-    sums = 4 * rows * columns * ("distance" in known["annotations"])
+    sums = 4 * rows * columns * len({*(known["annotations"] or "duration").split(",")} - {unit, "weight"})
     if service == "match":
         sums = sum(16 * min(float(each or 5), 16) ** 2 for each in (known["radiuses"] or ";" * (count - 1)).split(";"))
     metres = [float(each) * 130_000 / 60 for each in known["contours_minutes"].split(",") if each]
@@ -112,13 +96,13 @@ def cost_by_the_page(size, service, places, query):
 def test_costs_are_those_of_the_page(service):
     """With each of these parameters, and without; between places near and far away, of a small map and a large one."""
     lists = [FAR[:1]] if service in ("nearest", "isochrone") else [FAR[:2], ["179.9,-5", "-179.9,-5"], FAR[:5]]
-    for size, places in itertools.product((BIG, Size(3000, 9000, 3.0, 0.5, 3)), lists):
+    for (size, unit), places in itertools.product(((BIG, "duration"), (Size(3000, 9000, 3.0, 0.5, 3), "distance")), lists):
         for texts in itertools.product(*(["", *some] for some in CHANGING[service].values())):
             query = {name: text for name, text in zip(CHANGING[service], texts) if text}
             for name in {"bearings", "radiuses"} & query.keys():
                 query[name] += ";" * (len(places) - 1 - query[name].count(";"))
-            found = cost(service, len(places), "&".join("=".join(each) for each in query.items()), places, size)
-            assert found == pytest.approx(cost_by_the_page(size, service, places, query), rel=1e-3), (size, places, query)
+            found = cost(size, service, places, query, unit)
+            assert found == pytest.approx(cost_by_the_page(size, service, places, query, unit), rel=1e-3), (size, places, query)
 
 
 @drawn(60)
@@ -162,7 +146,8 @@ def test_a_meter_ends_what_costs_too_much():
     with pytest.raises(RequestError, match="costs more than 10,000,000 units:") as raised:
         for _ in range(MOST):
             meter.spend(Work.ROAD, 1000)
-    assert f"and {Work.ROAD.units} for each road that is looked at" in " ".join(PAGE.split())
+    for text in (f"and {Work.ROAD.units} for each road that is looked at", f"Above {SHORT:,} units it is a long request", f"|{MOST:,} units|"):
+        assert text in " ".join(PAGE.split())
     assert raised.value.code == "TooBig" and MOST < meter.spent <= MOST + 1000 * Work.ROAD.units
     assert max(later - now for now, later in itertools.pairwise(ticks)) < 50_000
     with pytest.raises(RequestError, match="would cost 10,000,001 units, and may cost 10,000,000:"):
@@ -600,7 +585,8 @@ class ArbiterTests(ServiceCase):
     def test_a_log_that_nobody_reads(self):
         """Requests are answered while nobody reads standard error, a pipe that is soon full; and the service ends."""
         process = self.serve("--access-log", reads_log=False)
-        for _ in range(1000):
+        fcntl.fcntl(process.stderr, fcntl.F_SETPIPE_SZ, 4096)
+        for _ in range(100):
             self.assertEqual(self.ask("/health")[0], 200)
         self.assertGreater(self.value("log_lines_lost_total"), 0)
         self.stop(process)
