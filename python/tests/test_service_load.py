@@ -54,29 +54,9 @@ class LoadCase(ServiceCase):
     def connect(self, stack):
         return stack.enter_context(socket.create_connection(("127.0.0.1", self.port), SECONDS))
 
-    def ask_at_once(self, asked):
-        """Sends each of some requests three times, all at once: each gets its answer in the end, and 503 while there is no slot."""
-        def ask(wanted, *request):
-            for _ in range(3):
-                while (found := self.ask(*request))[0] == 503:
-                    self.assertRegex(found[1]["message"], "too many (long )?requests at once")
-                    time.sleep(1)
-                self.assertEqual(found, wanted)
-
-        with self.under_attack(), concurrent.futures.ThreadPoolExecutor(len(asked)) as pool:
-            for each in [pool.submit(ask, *each) for each in asked]:
-                each.result()
-
 
 class AttackTests(LoadCase):
     """On the service's own port."""
-
-    def test_sixteen_batches(self):
-        self.begin()
-        asked = "/nodes/routes", "POST", LINE * 3000
-        status, text = self.ask(*asked)
-        self.assertEqual((status, text.count("nodes")), (200, 3000))
-        self.ask_at_once([((status, text), *asked)] * 16)
 
     def test_slow_heads_and_bodies(self):
         """Heads that stop arriving, byte by byte and at once, and bodies that do, short and long ones: others are answered
@@ -131,15 +111,25 @@ class AttackTests(LoadCase):
             stream.sendall(data)
 
     def test_long_requests(self):
-        """Tables and routes with many places, and annotations with one name many times, at once."""
+        """Batches, tables and routes with many places, and annotations with one name many times, each nine times, sixteen at once: each
+        gets its answer in the end, and 503 while there is no slot."""
         self.begin()
         draw = random.Random(3)
         places = ";".join(f"{draw.uniform(0, 0.008):.6f},{draw.uniform(-0.0001, 0.0001):.6f}" for _ in range(45))
         paths = [f"/table/v1/car/{places}?annotations=duration,distance", f"/route/v1/car/{places}?steps=true&annotations=true",
                  f"/route/v1/car/{places}?annotations={'speed,' * 5000}speed", "/nearest/v1/car/0,0?number=100&radiuses=unlimited&bearings=0,0"]
-        wanted = {path: self.ask(path) for path in paths}
-        self.assertEqual([status for status, _ in wanted.values()], [200, 200, 400, 200])
-        self.ask_at_once([(wanted[path], path) for path in paths * 3])
+        wanted = {asked: self.ask(*asked) for asked in [(path,) for path in paths] + [("/nodes/routes", "POST", LINE * 3000)]}
+        self.assertEqual([status for status, _ in wanted.values()], [200, 200, 400, 200, 200])
+        self.assertEqual([*wanted.values()][-1][1].count("nodes"), 3000)
+
+        def ask(asked):
+            while (found := self.ask(*asked))[0] == 503:
+                self.assertRegex(found[1]["message"], "too many (long )?requests at once")
+                time.sleep(1)
+            self.assertEqual(found, wanted[asked])
+
+        with self.under_attack(), concurrent.futures.ThreadPoolExecutor(16) as pool:
+            self.assertEqual(len([*pool.map(ask, [*wanted] * 9)]), 45)
 
 
 class NginxAttackTests(NginxCase, AttackTests):

@@ -38,7 +38,7 @@ PARTS: dict[str, tuple[str, ...] | Callable[["Draw"], object]] = {
     "nodes": ("/nodes/route", "/nodes/length"), "batch": ("/nodes/routes", "/nodes/lengths"), "few": tuple("123456789"),
     "site": ("cross-site", "same-site"), "upper": ("POST", "PUT", "DELETE", "PATCH", "OPTIONS"),
     "line": ("_ibE_ibE", "??_ibE_ibE", "_ibE_ibE$few$few"),
-    "type": ("application/json", "application/x-ndjson", "application/JSONL", "application/x-ndjson; charset=utf-8"),
+    "type": ("application/json", "application/x-ndjson", "application/JSONL", "application/json ;charset=utf-8"),
     # texts that are no numbers
     "bad": tuple((
         "nan NaN -nan inf -inf Infinity 1e999 -1e999 1e100 0x1A 1_0 + - --1 +-1 1..2 1.2.3 . 1e e5 1e+ 1e1.5 1d3 1f 1L one None null "
@@ -115,7 +115,7 @@ def among(*wrong: str) -> tuple[str, ...]:
 HEAD = "GET $get HTTP/1.1\nHost: x\n"
 POST = "POST $batch HTTP/1.1\nHost: x\nContent-Type: application/json\n"
 PAIR, CHUNKED = '{"from": 1, "to": $node}', "Transfer-Encoding: chunked\n"
-GOING_ON = (
+KINDS = (
     Kind(400, "InvalidQuery", "a number that is none", among(
         "$degrees,$bad", "$bad,$degrees", "12345,$degrees", "$degrees,0001")),
     Kind(400, "InvalidQuery", "a place that is none", among(
@@ -205,9 +205,6 @@ GOING_ON = (
     Kind(200, "InvalidValue", "lines of other nodes", tuple(f'{{"from": {one}, "to": {other}}}' for value in (
         "0", "-1", "$above", "1.5", "1.0", "1e0", "1e999", "NaN", "-Infinity", "true", "[1]", '{"a": 1}', '"one"', '""', '"1.0"', '"\\\\u0661"',
         '" 1"', '"\\\\u0000"', "9" * 200, '"%s"' % ("1" * 240)) for one, other in ((value, "$node"), ("$node", value))), in_lines),
-)
-# After these the connection is closed: a body that is too long, another version of HTTP, and what isn't HTTP.
-ENDING = (
     Kind(413, "TooBig", "a body that is too long", (f"{POST}Content-Length: $too_large\n\n",), whole),
     Kind(505, "HttpVersion", "another HTTP", tuple(f"GET $get HTTP/{version}\nHost: x\n\n" for version in ("1.2", "0.9", "2.0")), whole),
     Kind(400, "InvalidUrl", "a first line that is none", tuple(f"{line}\nHost: x\n\n" for line in (
@@ -252,7 +249,7 @@ PARTS["lf"] = ("\n",)
 def drawn(draw: Draw) -> Iterator[tuple[Kind, bytes]]:
     """Requests of all kinds in turn, all different."""
     seen: set[bytes] = set()
-    for kind in itertools.cycle((*GOING_ON, *ENDING)):
+    for kind in itertools.cycle(KINDS):
         request = next((made for made in (kind.drawn(draw) for _ in range(1000)) if made not in seen), None)
         assert request is not None, f"there are no more of the kind: {kind.name}"
         seen.add(request)
@@ -318,7 +315,9 @@ def test_requests_at_the_limits_and_fields_of_answers(tmp_path: pathlib.Path) ->
         assert get(target, fields).status == status, (target[:99], fields[:99])
     head = f"GET /health HTTP/1.1\r\n{host}{16 * fill}X-B: {'b' * left}\r\n\r\n".encode()
     assert {classify_head(head[:end]) for end in range(-9, 0)} == {HeadState.PARTIAL}
-    assert (get("/health", "", version="1.0").status, get("/", method="POST").status) == (200, 405)
+    for method, path, allowed in (("POST", "/", "GET, HEAD"), ("OPTIONS", "/health", "GET, HEAD"), ("OPTIONS", "/nodes/lengths", "POST")):
+        assert (get(path, method=method).status, get(path, method=method).fields["allow"]) == (405, allowed)
+    assert get("/health", "", version="1.0").status == 200
     policies = {"referrer-policy": "no-referrer", "cache-control": "no-cache", "content-security-policy": POLICY}
     kinds = {f".{name}": f"text/{kind}; charset=utf-8" for name, kind in (("css", "css"), ("js", "javascript"), ("html", "html"))}
     kinds[".svg"] = "image/svg+xml"
@@ -356,7 +355,7 @@ class MalformedTests(ServiceCase):
         process, cases = self.serve("--network", self.folder / "v"), drawn(Draw(SEED + 1))
 
         def some() -> None:
-            for kind, request in itertools.islice(cases, len(GOING_ON) + len(ENDING)):
+            for kind, request in itertools.islice(cases, len(KINDS)):
                 self.look_at(kind, request, self.ask_one(request))
 
         self.assert_level(process, some)

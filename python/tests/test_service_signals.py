@@ -23,21 +23,6 @@ PATH = "/nodes/length?from=1&to=2"
 
 
 class SignalTests(ServiceCase):
-    def test_a_new_hierarchy(self):
-        self.command = PATIENT
-        process = self.serve()
-        old = self.ask(PATH)[1]["length"]
-        answers = [(200, {"from": 1, "to": 2, "length": factor * old}) for factor in (1, 2, 3)]
-        with self.asking({(PATH,): answers}) as clients:
-            for factor in (2, 3):
-                opened = self.value("last_reload_timestamp_seconds")
-                self.prepare(factor)
-                self.reload(process)
-                self.assertEqual({self.ask(PATH)[1]["length"] for _ in range(20)}, {factor * old})
-                self.assertGreater(self.value("last_reload_timestamp_seconds"), opened)
-        self.assertEqual([client.lost for client in clients], [[]] * 4)
-        self.wait_for(lambda: self.value("reloads_total") == 2)
-
     def test_a_file_that_changes_behind_its_trial(self):
         """A file that takes the hierarchy's name between the child's trial and the arbiter's opening is refused, though it is right;
         the next reload tries it, and the failed one is over."""
@@ -135,9 +120,11 @@ gunicorn_app.Application.load = late
         for number, count in ((signal.SIGTTIN, 5), (signal.SIGTTOU, 4)):
             process.send_signal(number)
             self.wait_for(lambda count=count: self.value("workers") == count)
+        opened = self.value("last_reload_timestamp_seconds")
         self.prepare(2)
         self.reload(process)
-        self.assertEqual(self.value(name), 30)
+        self.assertGreater(self.value("last_reload_timestamp_seconds"), opened)
+        self.assertEqual((self.value(name), self.value("reloads_total")), (30, 1))
         self.assertEqual({self.ask(PATH)[1]["length"] for _ in range(20)}, {2 * old})
         self.wait_for(lambda: len(workers_of(process)) == 4)
         self.assertEqual(self.value("worker_restarts_total"), 1)
