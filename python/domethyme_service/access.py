@@ -24,7 +24,7 @@ class AccessPolicy(NamedTuple):
 
     @classmethod
     def from_options(cls, hosts: Iterable[str], origin: str) -> "AccessPolicy":
-        return cls(frozenset(host.lower().rstrip(".") for host in hosts), origin)
+        return cls(frozenset(host.lower().rstrip(".") for host in hosts), origin.lower())
 
     def check(self, host: str | None, local: str, environ: Mapping[str, Any], is_page: bool) -> None:
         """Raises RequestError if a request isn't allowed. `host` is its Host, None for HTTP/1.0 without one; `local` the

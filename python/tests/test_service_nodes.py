@@ -123,7 +123,7 @@ def test_what_can_not_start(run, tmp_path, monkeypatch, program):
 
 # (some by their old names)
 WORDS = "--network net --checked g.gr --towards --exclude toll=a=b.rch --exclude ferry=c.rch --within 6 --default-radius 7 --fronts 5 "
-WORDS += "--table-cells 9 --tables fast --profile car --profile van --allowed-host A.org --allowed-host b --cors a://b:80 --log-places"
+WORDS += "--table-cells 9 --tables fast --profile car --profile van --allowed-host A.org --allowed-host b --cors a://B:80 --log-places"
 EXCLUDED = {frozenset({"toll"}): "a=b.rch", frozenset({"ferry"}): "c.rch"}
 RENAMED = ["checked is now --verify", "within is now --radius", "default-radius is now --radius", "fronts is now --workers",
            "table-cells is now --max-table-cells"]
