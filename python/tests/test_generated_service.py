@@ -255,8 +255,10 @@ def check_nodes(made: Drawn, service: Service, pairs: list[tuple[int, int]]) -> 
                 assert found == {**expected, "arcs": net.fewest_arcs(one, other), "nodes": found["nodes"]}
                 assert nodes is None if length is None else net.is_path(nodes, one, other, length)
     if made.has_keys:
-        wrong = {"from_key": net.nodes[0].key, "to_key": "nowhere"}
-        errors = ask(service, f"/nodes/length?{urllib.parse.urlencode(wrong)}")[1], *ask(service, "/nodes/lengths", json.dumps(wrong))[1]
+        key: Any = net.nodes[0].key
+        wrong = [{"from_key": key, "to_key": each} for each in ("nowhere", f"{key} ", key.upper(), key[:-1], "", 1, True, None, [key])]
+        errors = [ask(service, f"/nodes/length?{urllib.parse.urlencode(each)}")[1] for each in wrong[:2]]
+        errors += ask(service, "/nodes/lengths", "\n".join(map(json.dumps, wrong)))[1]
         assert all(each["code"] == "InvalidValue" and each["message"].startswith("to_key ") for each in errors)
 
 
