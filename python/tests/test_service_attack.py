@@ -166,8 +166,9 @@ class BrowserTests(ServiceCase):
     def test_an_origin_that_may_ask(self):
         self.serve("--cors", "https://map.example")
         mine = {"Origin": "https://map.example", "Sec-Fetch-Site": "cross-site", "Sec-Fetch-Mode": "cors"}
-        self.assertEqual(self.ask(PATH, headers=mine)[0], 200)
+        self.assertEqual(self.ask(PATH, headers={**mine, "Access-Control-Request-Method": "GET"})[0], 200)
         self.assertEqual((self.headers["Access-Control-Allow-Origin"], self.headers["Vary"]), ("https://map.example", "Origin"))
+        self.assertEqual(self.ask(PATH, "OPTIONS", headers=mine)[0], 405)
         self.assertEqual(self.ask(f"{PATH}x", headers=mine)[0], 400)
         self.assertEqual(self.headers["Access-Control-Allow-Origin"], "https://map.example")
         status = self.raw(b"OPTIONS /nodes/lengths HTTP/1.1\r\nHost: x\r\nOrigin: https://map.example\r\nConnection: close\r\n"
