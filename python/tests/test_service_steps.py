@@ -58,6 +58,12 @@ def test_a_crossing(tmp_path: pathlib.Path, forbidden: list[tuple[int, int]], en
         assert leg["annotation"]["nodes"] == nodes
 
 
+def test_a_via_at_a_crossing(tmp_path: pathlib.Path) -> None:
+    """With a bearing it is within a road, by which the route goes on from the crossing, which it passes once."""
+    some = steps(tmp_path, crossing(), "-0.0005,0;0,0;0,0.0005", "&waypoints=0;2&bearings=;0,20;")
+    assert [[road["bearings"] for road in step["intersections"]] for step in some] == [[[90]], [[0, 90, 180, 270]], [[180]]]
+
+
 def test_an_exit_by_two_arcs(tmp_path: pathlib.Path) -> None:
     """A road that leads to two copies of a junction is one exit of a roundabout."""
     places = [(-0.002, 0.0), (-0.001, 0.0), (0.0, -0.001), (0.001, 0.0), (0.0, -0.002), (0.002, 0.0)]

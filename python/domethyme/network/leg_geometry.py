@@ -154,7 +154,8 @@ class RouteGeometry:
     def joints(self) -> Ints:
         """The arcs with which a leg goes on at a point within a road."""
         firsts, of_legs = self._part_first.tolist(), {*self.first.tolist()}
-        inner = [firsts[number] for number in self._driven.tolist() if self._parts[number].begin != 0.0]
+        pairs = itertools.pairwise(self._driven.tolist())
+        inner = [firsts[behind] for before, behind in pairs if self._parts[before].end != 1.0 or self._parts[behind].begin != 0.0]
         return np.array([first for first in inner if first not in of_legs], np.int64)
 
     @functools.cached_property

@@ -39,6 +39,11 @@ def is_along(network: Network, part: Part) -> bool:
     return network.edges[network.edge_of[part[0]]].arcs[part[0]]
 
 
+def is_within(leg: Leg, number: int) -> bool:
+    """Whether a part of a leg behind the first one begins at a point within a road."""
+    return leg[number - 1][2] != 1 or leg[number][1] != 0
+
+
 def is_round(arc: Arc) -> bool:
     return arc.junction in ("roundabout", "circular")
 
@@ -91,7 +96,7 @@ def intersection(network: Network, leg: Leg, number: int, place: Point, ways: tu
     into = network.edge_of[before[0]], not is_along(network, before)
     out = network.edge_of[behind[0]], is_along(network, behind)
     roads: dict[tuple[int, bool], tuple[float | None, bool]] = {into: (None, into == out)}
-    for (road, edge), is_begin in itertools.product(enumerate(network.edges) if behind[1] == 0 else (), (True, False)):
+    for (road, edge), is_begin in itertools.product(() if is_within(leg, number) else enumerate(network.edges), (True, False)):
         if network.arcs[behind[0]].start in {network.arcs[arc][way != is_begin] for arc, way in edge.arcs.items()}:
             is_open = any(way == is_begin and (before[0], arc) not in network.forbidden for arc, way in edge.arcs.items())
             # (rounding decides about the direction of a short line)
@@ -104,7 +109,7 @@ def is_begin(network: Network, leg: Leg, number: int, turn: float) -> bool:
     """Whether a step begins with a part of a leg behind the first one, by the turn before it."""
     *_, before, arc = arcs = [network.arcs[part[0]] for part in leg[: number + 1]]
     is_turn = abs(turn) > 45 and is_junction(network, arc.start)
-    if leg[number][1] != 0:  # (at a point within a road it goes on, or turns round)
+    if is_within(leg, number):  # (there it goes on, or turns round)
         is_turn = is_along(network, leg[number]) != is_along(network, leg[number - 1])
     is_new = before.name != arc.name or mode(before) != mode(arc) or is_turn
     # (a step on a roundabout goes on behind it)
@@ -152,7 +157,7 @@ def steps(network: Network, ends: tuple[SnappedPoint, SnappedPoint], leg: Leg, l
             return unsure
         passed = [] if begin else [Intersection(start, [(first[0], True)], None, first[0])]
         for number in range(max(begin, 1), stop):
-            if number == begin or leg[number][1] == 0 and is_junction(network, arcs[number].start):
+            if number == begin or not is_within(leg, number) and is_junction(network, arcs[number].start):
                 both = (last[number - 1] + 180) % 360, first[number]
                 passed.append(intersection(network, leg, number, lines[number][0], both))
         turn = maneuver(network, [part[0] for part in leg[begin - 1 : stop]], named - begin, angle) if begin else depart
