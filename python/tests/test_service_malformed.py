@@ -25,6 +25,7 @@ from domethyme_service.errors import malformed
 from domethyme_service.gunicorn_app import FIXED_SETTINGS
 from domethyme_service.static import POLICY
 from domethyme_service.worker import MAX_HEAD, SHORT_BODY, HeadState, classify_head
+from domethyme_service.wsgi import size_of
 
 SEED, COUNT, FEW = 17, 10_000, 100
 NODES = 38
@@ -334,6 +335,8 @@ def test_requests_at_the_limits_and_fields_of_answers(tmp_path: pathlib.Path) ->
     wanted = {"box": [0, 0, 12, 16], "attribution": "© the town", "deepest": 16, "grid": 1024, "unit": "duration"}
     assert (json.loads(about.body), about.fields["cache-control"]) == ({**wanted, "version": mock.ANY}, "no-cache")
     assert (size.nodes, size.links, size.points, size.degrees) == (2, 2, 3, pytest.approx(20))
+    roads = mock.Mock(box=(-3, 51, 4, 75), edges=2, arrays=mock.Mock(points=[0] * 7))
+    assert size_of(mock.Mock(links=5, roads=roads, router=mock.Mock(nodes=6))) == (6, 5, 3.5, 25, 0)
     assert json.loads(get("/map/roads/0/0/0").body) == {"roads": [{"kind": 5, "lines": [[512, 512, 34, 0, 0, -46]]}]}
     write_network(one_road((0.0, 0.0), (0.0, 16.0), (12.0, 16.0)), tmp_path / "v", "--attribution", "© the town")
     assert InProcess(tmp_path).answer(b"GET /map/about HTTP/1.0\r\n\r\n").body != about.body  # (by its version)
