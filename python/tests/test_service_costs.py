@@ -146,7 +146,7 @@ def test_a_meter_ends_what_costs_too_much():
     with pytest.raises(RequestError, match="costs more than 10,000,000 units:") as raised:
         for _ in range(MOST):
             meter.spend(Work.ROAD, 1000)
-    for text in (f"and {Work.ROAD.units} for each road that is looked at", f"Above {SHORT:,} units it is a long request", f"|{MOST:,} units|"):
+    for text in (f"and {Work.ROAD.units} for each road that is looked at", f"Above {SHORT:,} units it is a long", f"|{MOST:,} units|"):
         assert text in " ".join(PAGE.split())
     assert raised.value.code == "TooBig" and MOST < meter.spent <= MOST + 1000 * Work.ROAD.units
     assert max(later - now for now, later in itertools.pairwise(ticks)) < 50_000

@@ -31,7 +31,8 @@ def test_names_and_statuses():
     """Each endpoint has a name of its own, and each status of the package a counter."""
     assert len(endpoints.BY_NAME) == len(endpoints.ENDPOINTS)
     text = "".join(path.read_text() for path in (TOOLS.parent / "python/domethyme_service").glob("*.py"))
-    found = {int(error or other) for error, other in re.findall(r"RequestError[(,]\s*([1-5]\d\d)|Response\(.*, ([1-5]\d\d)\)", text)}
+    rows = re.findall(r"RequestError[(,]\s*([1-5]\d\d)|Response\(.*, ([1-5]\d\d)\)", text)
+    found = {int(error or other) for error, other in rows}
     assert len(found) > 9 and found <= {*metrics.STATUSES}
 
 

@@ -272,16 +272,6 @@ class NginxTests(NginxCase, LoadCase):
             self.assertEqual([self.ask("/nothing", headers=each)[0] for each in (mine, other)], [429, 404])
         self.wait_for(lambda: self.ask("/nothing", headers=mine)[0] == 404)
 
-    def test_heads_that_never_end(self):
-        """1,600 of one client, which nginx doesn't count yet, with the settings of docs/OPERATING.md: others are answered."""
-        allow_files()
-        self.serve_behind_nginx()
-        with contextlib.ExitStack() as stack:
-            for _ in range(1600):
-                self.connect(stack).sendall(b"GET /health HTTP/1.1\r\nHost: x\r\nX-")
-            for _ in range(BESIDE):
-                self.assertEqual(self.ask(PATH)[0], 200)
-
     def test_no_place_is_logged(self):
         """A rejected request is logged neither by nginx nor by the service."""
         self.serve_behind_nginx("--access-log")
