@@ -13,7 +13,8 @@ from unittest import mock
 
 import pytest
 from draws import (
-    HIGHWAYS, KNOWN, LIMITS, ORIGINS, WORDS, WRONG, Drawn, directions, drawn, networks, one_road, places, texts_of, write_network
+    HEAVY, HIGHWAYS, KINDS, KNOWN, LIMITS, ORIGINS, WORDS, WRONG, Drawn, directions, drawn, networks, one_road, places, texts_of,
+    write_network
 )
 from hypothesis import assume, given
 from hypothesis import strategies as st
@@ -91,7 +92,7 @@ def target(request: Request) -> str:
 @drawn(300)
 @given(st.data())
 def test_routes_nearest_tables_and_trips(data: Any) -> None:
-    made = data.draw(networks())
+    made = data.draw(networks([*KINDS, HEAVY]))
     with tempfile.TemporaryDirectory() as folder, mock.patch.multiple(osrm_tables, NODE_CELLS=8, SUMMED_CELLS=8), \
             mock.patch.object(osrm_trip, "NODE_CELLS", 8), mock.patch.object(osrm, "SNAP_BATCH", 2):  # (so that these come in parts)
         service = serve(made, pathlib.Path(folder))
