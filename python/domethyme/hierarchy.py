@@ -597,7 +597,8 @@ class Hierarchy:
             raise ValueError(f"{node!r} is no node: nodes are integers, or keys where Hierarchy has keys={doubt}")
         number = operator.index(node)  # type: ignore[arg-type]
         if not 0 <= number < self.nodes:
-            raise NoSuchNode(f"there is no node {number}: the hierarchy has nodes 0 to {self.nodes - 1}", node)
+            known = f"nodes 0 to {self.nodes - 1}" if self.nodes else "no nodes"
+            raise NoSuchNode(f"there is no node {number}: the hierarchy has {known}", node)
         return number
 
     def _ends(self, name: str, ends: Ends, are_ends: bool = False) -> list[tuple[int, int]]:
@@ -645,14 +646,14 @@ def reopened(path: str, keys: Keys | None, network: "Network | None", compare_al
 
 
 def need_list(name: str, nodes: Any) -> None:
-    """Raises ValueError for a node alone, or a key that is a text."""
+    """Raises ValueError for a node alone, a key that is a text, or a table of nodes."""
     if not is_list(nodes):
-        raise ValueError(f"{name} are nodes in a list, as [{nodes!r}]")
+        raise ValueError(f"{name} are nodes in a list, {f'as [{nodes!r}]' if getattr(nodes, 'ndim', 0) < 2 else 'of one dimension'}")
 
 
 def is_list(values: Any) -> bool:
-    """Whether these are values to go through, and no text."""
-    return isinstance(values, Iterable) and not isinstance(values, str) and getattr(values, "ndim", 1) > 0
+    """Whether these are values to go through, and no text, nor a frame, of which these would be the names of its columns."""
+    return isinstance(values, Iterable) and not isinstance(values, str) and getattr(values, "ndim", 1) == 1
 
 
 def is_whole(value: Any) -> bool:
