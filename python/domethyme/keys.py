@@ -27,8 +27,8 @@ class Keys:
     whose graph had them, and are refused for others."""
 
     def __init__(self, keys: "Keys | Mapping[Any, int] | Iterable[Hashable]", nodes: int | None = None) -> None:
-        """Of a mapping from keys to nodes, counted from 0, or of a key for each node in order, None or a missing value of pandas
-        for no key.
+        """Of a mapping from keys to nodes, counted from 0, or of a key for each node in order. None, or a missing value of pandas, is no
+        key.
 
         Raises ValueError where two nodes have one key, or where there aren't as many keys as `nodes`; a mapping may have fewer.
         """
@@ -40,13 +40,11 @@ class Keys:
         self._is_partial = isinstance(keys, Mapping)
         if isinstance(keys, Keys):
             vars(self).update(vars(keys))
-        elif not isinstance(keys, Iterable):
-            raise ValueError(f"keys are one for each node, or a mapping, and no {type(keys).__name__}: is it network.keys()?")
-        elif isinstance(keys, Mapping):
-            self._names = keys_by_node(keys, MAX_NODES if nodes is None else nodes)
-            self._nodes = {to_python_scalar(key): int(node) for key, node in keys.items()}
+        elif not isinstance(keys, Iterable) or isinstance(keys, (set, frozenset)) or getattr(keys, "ndim", 1) != 1:
+            raise ValueError(f"keys are one for each node in order, or a mapping, and no {type(keys).__name__}: is it network.keys()?")
         else:
-            self._names = [None if is_hashable(key) and is_missing(key) else key for key in map(to_python_scalar, keys)]
+            given = keys_by_node(keys, MAX_NODES if nodes is None else nodes) if isinstance(keys, Mapping) else keys
+            self._names = [None if is_hashable(key) and is_missing(key) else key for key in map(to_python_scalar, given)]
             try:
                 self._nodes, self._ambiguous = index_keys(self._names)
             except TypeError as error:
@@ -241,7 +239,7 @@ def keys_by_node(nodes: Mapping[Any, int], count: int) -> list[Hashable]:
     for key, node in nodes.items():
         if names[int(node)] is not None:
             raise ValueError(f"keys {names[int(node)]!r} and {key!r} name one node")
-        names[int(node)] = to_python_scalar(key)
+        names[int(node)] = key
     return names
 
 

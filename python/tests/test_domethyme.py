@@ -161,7 +161,7 @@ WRONG_CALLS = [
     *(("between", ([(0, node)], [0]), "must be integers") for node in NO_NODES),
     *(("between", sides, "a node or more") for sides in (([], [0]), ([0], {}))),
     *(("between", sides, "from 0 to 4294967295") for sides in (({0: -1}, [0]), ([0], {0: 1 << 32}))),
-    *(("between", sides, "is no node") for sides in ((np.zeros((2, 2), int), [0]), ([0], np.zeros((1, 1), int)))),
+    *(("between", (side, [0]), "starts are nodes in a list, of one dim") for side in (np.zeros((2, 2), int), pd.DataFrame([[3, 5], [0, 9]]))),
     ("between", ({0: 1.5}, [0]), "must be integers, not 1.5"), ("between", ([7], [0]), "nodes 0 to 3", 7),
     ("between", ([0], np.uint32(1)), r"ends are nodes in a list, as \[1\]"), ("between", ([0], None), "ends are nodes in a list"),
     *(("between", (start, [0]), f"starts are nodes in a list, as {re.escape(repr([start]))}") for start in (0, None, np.array(0))),
@@ -278,10 +278,11 @@ def test_keys_given_as_numbers_arrays_or_mappings(square, keys):
 
 @pytest.mark.parametrize("missing", [None, np.nan, pd.NA, pd.NaT])
 def test_nodes_without_a_key(square, missing):
-    with domethyme.Hierarchy(square.path, keys=pd.Series(["a", missing, "c", missing], dtype=object)) as hierarchy:
-        assert ([*hierarchy.keys], hierarchy.length("a", "c")) == (["a", None, "c", None], 7)
-        with pytest.raises(domethyme.NoSuchNode, match="names no node"):
-            hierarchy.matrix(pd.Series(["a", missing], dtype=object))
+    for keys in (pd.Series(["a", missing, "c", missing], dtype=object), {"a": 0, missing: 1, "c": 2}):
+        with domethyme.Hierarchy(square.path, keys=keys) as hierarchy:
+            assert ([*hierarchy.keys], len(hierarchy.keys), hierarchy.length("a", "c")) == (["a", None, "c", None], 4, 7)
+            with pytest.raises(domethyme.NoSuchNode, match="names no node"):
+                hierarchy.matrix(pd.Series(["a", missing], dtype=object))
     with pytest.raises(ValueError, match="an arc has no key at an end"):
         domethyme.Graph.from_keys(["a", missing], ["b", "c"], [1, 2])
 
@@ -290,6 +291,7 @@ def test_nodes_without_a_key(square, missing):
     ([1, 1], "key 1 names two nodes"), (domethyme.Keys([1, 2]), "keys of 2 nodes"), ({"a": 0, "b": 0}, "name one node"),
     *((range(count), f"keys of {count} nodes, and the hierarchy has 4") for count in (3, 5)), ([["a"]] * 4, "have to be hashable"),
     *(({"a": node}, "is no node") for node in (-1, 0.5, float("inf"), None)),
+    (set("abcd"), "in order, .* no set"), (pd.DataFrame(columns=list("abcd")), "no DataFrame"), (np.zeros((4, 1)), "no ndarray"),
 ])
 def test_keys_that_nobody_can_mean(square, keys, says):
     with pytest.raises(ValueError, match=says):
@@ -298,7 +300,10 @@ def test_keys_that_nobody_can_mean(square, keys, says):
 
 def test_graphs_without_arcs_and_with_keys_of_a_list(tmp_path):
     for frame in (pd.DataFrame({"from": [], "to": [], "weight": []}), pd.DataFrame(columns=["from", "to", "weight"])):
-        assert domethyme.Graph.from_frame(frame).prepare(tmp_path / "few.rch").nodes == 0
+        with domethyme.Graph.from_frame(frame).prepare(tmp_path / "few.rch", workers=0) as none:
+            assert (none.nodes, none.matrix([]).shape, len(none.routes([]))) == (0, (0, 0), 0)
+    with domethyme.Graph([], [], []).prepare(tmp_path / "few.rch") as none, pytest.raises(domethyme.NoSuchNode, match="has no nodes"):
+        none.reach([0])
     assert domethyme.Graph([0], [1], [5], keys=["a", "b"]).prepare(tmp_path / "few.rch").length("a", "b") == 5
     with pytest.raises(ValueError, match="keys of 1 nodes"):
         domethyme.Graph([0], [1], [5], keys=["a"])
