@@ -98,10 +98,10 @@ class Routes:
         return need_network(network, self.network).geojson(self)
 
     def to_geodataframe(self, network: "Network | None" = None) -> Any:
-        """The frame of `to_frame` as a GeoDataFrame of geopandas, with seconds, metres and the lines in WGS 84, None if there is no path.
-        Raises ValueError where there is no network."""
+        """The frame of `to_frame` as a GeoDataFrame of geopandas, with seconds and metres, NaN where there are none, and the lines in
+        WGS 84, None if there is no path. Raises ValueError where there is no network."""
         geopandas, features = load("geopandas"), self.geojson(network)["features"]
-        figures = {name: [feature["properties"][name] for feature in features] for name in ("seconds", "metres")}
+        figures = {name: np.array([feature["properties"][name] for feature in features], float) for name in ("seconds", "metres")}
         lines = [feature["geometry"] and load("shapely.geometry").shape(feature["geometry"]) for feature in features]
         frame = self.to_frame().assign(**figures)
         return geopandas.GeoDataFrame(frame, geometry=geopandas.GeoSeries(lines, index=frame.index, dtype="geometry"), crs="EPSG:4326")

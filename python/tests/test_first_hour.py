@@ -137,7 +137,7 @@ def test_places_of_geopandas(village):
     routes = hierarchy.routes(pairs)
     frame, features = routes.to_geodataframe(), routes.geojson()["features"]
     assert hierarchy.lengths(pairs).index.tolist() == frame.index.tolist() == ["near", "far"]
-    assert frame.crs == 4326 and frame.geometry["far"] is None
+    assert frame.crs == 4326 and frame.geometry["far"] is None and [*routes[1:].to_geodataframe().dtypes[-3:-1]] == [float] * 2
     for name in ("to", "length", "seconds", "metres"):
         assert frame.loc["near", name] == features[0]["properties"][name]
     assert json.loads(json.dumps(frame.geometry["near"].__geo_interface__)) == features[0]["geometry"]
