@@ -68,8 +68,8 @@ def test_as_the_model(data: Any) -> None:
         both = hierarchy.table(snapped, snapped[::-1], sums=["metres"])
         assert both["weight"].tolist() == table.tolist()
         for (start, end), metres in zip(itertools.product(points, points[::-1]), both["metres"].ravel().tolist()):
-            wanted = [figures(made.roads, leg)["distance"].value for leg in legs[start, end]]
-            assert any(abs(metres - each) < 0.01 for each in wanted) if wanted else math.isnan(metres)
+            wanted = [sum(made.roads.arcs[arc].metres * (stop - begin) for arc, begin, stop, _ in leg) for leg in legs[start, end]]
+            assert any(abs(metres - each) < 0.0012 for each in wanted) if wanted else math.isnan(metres)
         if len(spots) > 1:
             stops = sorted({0, *data.draw(st.sets(st.integers(0, len(spots) - 1))), len(spots) - 1})
             found = hierarchy.directions(spots, waypoints=stops, **options)

@@ -227,7 +227,9 @@ def test_unsigned_numbers_beside_others(square):
 def test_routes_that_are_equal_or_not_there(square):
     pairs = [[0, 2], [0, 3], [3, 2], [1, 1]]
     routes = square.routes(pairs)
-    assert routes == square.routes(np.array(pairs)) != routes[1:] and square.routes([[0, 3]]) != square.routes([[1, 3]])
+    parts = [routes.lengths, routes.nodes, routes.offsets, routes.pairs]
+    assert routes == square.routes(np.array(pairs)) == domethyme.Routes(*parts) != routes[1:]
+    assert all(routes != domethyme.Routes(*parts[:place], parts[place] + 1, *parts[place + 1 :]) for place in range(4))
     assert repr(routes) == "<4 routes of 8 nodes>"
     for row in (4, -5):
         with pytest.raises(IndexError, match=f"there is no route {row} among 4"):

@@ -72,8 +72,8 @@ def test_lengths_routes_and_tables(data: Any) -> None:
         with asked.hierarchy:
             pairs = data.draw(st.lists(st.tuples(nodes, nodes), max_size=5))
             has_arrays = kind in ("none", "texts", "numbers")  # (others can't be in an array of numpy)
-            of_pairs = ["list", "array", *FRAMES, *["index"] * (kind != "none")]
-            check_pairs(asked, pairs, data.draw(st.sampled_from(of_pairs)) if has_arrays else "list")
+            of_pairs = ["list", *["array"] * has_arrays, *FRAMES, *["index"] * (kind != "none")]
+            check_pairs(asked, pairs, data.draw(st.sampled_from(of_pairs)), None if has_arrays else object)
             of_pandas = ["series", "index"] if has_arrays or kind == "pairs" else []
             forms = [data.draw(st.sampled_from(["list", "iterator", *of_pandas, *["array"] * has_arrays])) for _ in range(2)]
             sides = [data.draw(st.lists(nodes, max_size=6)) for _ in range(2)]
@@ -85,7 +85,7 @@ def test_lengths_routes_and_tables(data: Any) -> None:
             check_reach(asked, starts, limit, data.draw(st.booleans()))
 
 
-def check_pairs(asked: Asked, pairs: list[tuple[int, int]], form: str) -> None:
+def check_pairs(asked: Asked, pairs: list[tuple[int, int]], form: str, kind: Any) -> None:
     by_key = [(asked.keys[source], asked.keys[target]) for source, target in pairs]
     wanted = [asked.lengths[source].get(target) for source, target in pairs]
     assert [asked.hierarchy.length(*each) for each in by_key] == wanted
@@ -97,21 +97,19 @@ def check_pairs(asked: Asked, pairs: list[tuple[int, int]], form: str) -> None:
             assert (route.source, route.target, route.length, route.arcs) == (source, target, length, count)
             assert count == len(route.nodes) - 1 and asked.is_route(route.nodes, source, target, length)
             check_line(asked, route)
-    if any(isinstance(key, tuple) for key in asked.keys):
-        return
     given: Any = np.array(by_key) if form == "array" else by_key
     if form == "index":
         given = pandas.Index(by_key, dtype=object, tupleize_cols=False)
     if form in FRAMES:
         index, columns = [7 * row for row in range(len(pairs))], [*FRAMES.values()][[*FRAMES].index(form) :]
         rows = [[*each, *each[::-1] * (len(columns) - 1)] for each in by_key]  # (of several names the first ones count)
-        given = pandas.DataFrame(rows, columns=[*itertools.chain(*columns)], index=index)
+        given = pandas.DataFrame(rows, columns=[*itertools.chain(*columns)], index=index, dtype=kind)
     lengths, routes = asked.hierarchy.lengths(given), asked.hierarchy.routes(given)
     filled = [[-1 if each is None else each for each in row] for row in (wanted, arcs)]
     assert [routes.lengths.tolist(), routes.arcs.tolist()] == filled
     assert plain(lengths) == (wanted if form in FRAMES else filled[0])
     for route, (source, target), length in zip(routes, by_key, wanted):
-        assert len(route) == 0 if length is None else asked.is_route(list(route), source, target, length)
+        assert len(route) == 0 if length is None else asked.is_route(route.tolist(), source, target, length)
     features, frame = asked.hierarchy.network.geojson(routes)["features"], routes.to_frame()
     shown = [[feature["properties"][name] for name in ("from", "to", "length", "arcs")] for feature in features]
     assert shown == plain(frame) == [[*pair, *figures] for pair, *figures in zip(by_key, wanted, arcs)]
