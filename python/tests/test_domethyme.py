@@ -14,7 +14,7 @@ import pytest
 from draws import drawn
 from hypothesis import given
 from hypothesis import strategies as st
-from tool_case import ROOT, run_python
+from tool_case import run_python
 
 import domethyme
 from domethyme import batch, errors, find_program, graphs
@@ -161,7 +161,7 @@ WRONG_CALLS = [
     *(("between", ([(0, node)], [0]), "must be integers") for node in NO_NODES),
     *(("between", sides, "a node or more") for sides in (([], [0]), ([0], {}))),
     *(("between", sides, "from 0 to 4294967295") for sides in (({0: -1}, [0]), ([0], {0: 1 << 32}))),
-    *(("between", (side, [0]), "starts are nodes in a list, of one dim") for side in (np.zeros((2, 2), int), pd.DataFrame([[3, 5], [0, 9]]))),
+    *(("between", (side, [0]), "in a list, of one dimension") for side in (np.zeros((2, 2), int), pd.DataFrame([[3, 5], [0, 9]]))),
     ("between", ({0: 1.5}, [0]), "must be integers, not 1.5"), ("between", ([7], [0]), "nodes 0 to 3", 7),
     ("between", ([0], np.uint32(1)), r"ends are nodes in a list, as \[1\]"), ("between", ([0], None), "ends are nodes in a list"),
     *(("between", (start, [0]), f"starts are nodes in a list, as {re.escape(repr([start]))}") for start in (0, None, np.array(0))),
@@ -189,8 +189,9 @@ def test_errors_by_their_kinds(tmp_path):
     missing, few = "No such file or directory", domethyme.Graph([0], [1], [5])
     calls = [(domethyme.prepare, [graph, file]), (domethyme.check, [graph, file]), (domethyme.renew, [graph, file, file]),
              (few.prepare, [file]), (few.renew, [file, file])]
-    for kind, message, status, attempt in [
-        (domethyme.GraphError, "routecli: graph: NodeRange line 2", 3, lambda: domethyme.prepare(graph, file)),
+    for kind, message, status, attempt, *explained in [
+        (domethyme.GraphError, "routecli: graph: NodeRange line 2", 3, lambda: domethyme.prepare(graph, file), "bad.gr:2: a 1 3 5"),
+        (domethyme.ReadWriteError, "routecli: write", 7, lambda: few.prepare(tmp_path / "nowhere/few.rch"), "nowhere"),
         (domethyme.ReadWriteError, f"no.gr: {missing}", 7, lambda: domethyme.prepare("no.gr", file)),
         (domethyme.HierarchyError, f"{graph}: is no file that `routecli prepare` wrote", 4, lambda: domethyme.Hierarchy(graph)),
         (domethyme.HierarchyError, f"{tmp_path}: Is a directory", 7, lambda: domethyme.Hierarchy(tmp_path)),
@@ -205,7 +206,9 @@ def test_errors_by_their_kinds(tmp_path):
             attempt()
         assert isinstance(caught.value, domethyme.Fault)
         assert isinstance(caught.value, FileNotFoundError) == issubclass(kind, FileNotFoundError)
-        assert (str(caught.value).splitlines()[0], caught.value.status) == (message, status)
+        assert (caught.value.message, caught.value.status) == (message, status)
+        assert str(caught.value) == "\n  ".join([message, *caught.value.explanation])
+        assert all(text in caught.value.explanation[0] for text in explained)
     assert [*tmp_path.iterdir()] == [graph]
     kinds = {FileNotFoundError: "HierarchyNotFound LibraryNotFound ProgramNotFound", MemoryError: "OutOfMemory",
              OSError: "ReadWriteError", LookupError: "NoSuchNode", errors.FileError: "MapError NetworkError",
@@ -285,8 +288,6 @@ def test_nodes_without_a_key(square, missing):
             assert ([*hierarchy.keys], len(hierarchy.keys), hierarchy.length("a", "c")) == (["a", None, "c", None], 4, 7)
             with pytest.raises(domethyme.NoSuchNode, match="names no node"):
                 hierarchy.matrix(pd.Series(["a", missing], dtype=object))
-    with pytest.raises(ValueError, match="an arc has no key at an end"):
-        domethyme.Graph.from_keys(["a", missing], ["b", "c"], [1, 2])
 
 
 @pytest.mark.parametrize("keys, says", [
@@ -304,19 +305,14 @@ def test_graphs_without_arcs_and_with_keys_of_a_list(tmp_path):
     for frame in (pd.DataFrame({"from": [], "to": [], "weight": []}), pd.DataFrame(columns=["from", "to", "weight"])):
         with domethyme.Graph.from_frame(frame).prepare(tmp_path / "few.rch", workers=0) as none:
             assert (none.nodes, none.matrix([]).shape, len(none.routes([]))) == (0, (0, 0), 0)
-    with domethyme.Graph([], [], []).prepare(tmp_path / "few.rch") as none, pytest.raises(domethyme.NoSuchNode, match="has no nodes"):
-        none.reach([0])
+    with pytest.raises(domethyme.NoSuchNode, match="the hierarchy has no nodes"):
+        domethyme.Graph([], [], []).prepare(tmp_path / "few.rch").reach([0])
     assert domethyme.Graph([0], [1], [5], keys=["a", "b"]).prepare(tmp_path / "few.rch").length("a", "b") == 5
-    with pytest.raises(ValueError, match="keys of 1 nodes"):
-        domethyme.Graph([0], [1], [5], keys=["a"])
     graph = domethyme.Graph.from_keys("ab", "ca", [1, 2])
     assert ([*graph.keys], repr(graph), repr(graph.keys)) == (["a", "b", "c"], "<Graph of 3 nodes and 2 arcs>", "<Keys of 3 nodes>")
 
 
 def test_weights_that_are_no_whole_numbers(tmp_path):
-    for weights in ([1.0, -1.0], [1.0, 5e6], [1.0, float("nan")]):
-        with pytest.raises(ValueError, match="weights times 1000 have to be from 0"):
-            domethyme.Graph.from_keys(["a", "b"], ["b", "c"], weights, scale=1000)
     assert domethyme.Graph.from_keys(["a"], ["b"], [4294967.295], scale=1000).weights.tolist() == [(1 << 32) - 1]
     graph = domethyme.Graph.from_keys(["a", "b"], ["b", "c"], [0.5, 1.9996], scale=1000)
     with graph.prepare(tmp_path / "scaled.rch") as hierarchy:
@@ -328,23 +324,32 @@ def test_weights_that_are_no_whole_numbers(tmp_path):
 
 
 def test_scales_that_lose_weights():
-    for scale in (0, -1, float("inf"), float("nan"), "7"):
-        for call in (lambda: domethyme.Graph.from_keys(["a"], ["b"], [0.5], scale=scale), lambda: domethyme.unscaled(7, scale)):
-            with pytest.raises(ValueError, match="the scale has to be above 0"):
-                call()
     with pytest.warns(UserWarning, match="2 of 4 weights are above 0, and 0 once they are scaled by 1") as told:
         domethyme.Graph.from_keys("abcd", "bcda", [0.3, 0, 0.4, 2], scale=1)
     assert told[0].filename == __file__
 
 
-def test_ends_without_a_key():
-    for sources in ([["a"]], 5, None):
-        with pytest.raises(ValueError, match="lists of hashable ones"):
-            domethyme.Graph.from_keys(sources, ["b"], [1])
-    for column in (pd.Series([1, None]), pd.Series([1, None], dtype="Int64"), pd.Series(["a", None], dtype="category")):
-        frame = pd.DataFrame({"from": column, "to": column[::-1].to_numpy(), "weight": 1})
-        with pytest.raises(ValueError, match="an arc has no key at an end"):
-            domethyme.Graph.from_frame(frame)
+KEYED, FRAMED = domethyme.Graph.from_keys, domethyme.Graph.from_frame
+PAIR = pd.DataFrame({"from": [0, 1], "to": [1, 0], "weight": [3, 4]}, dtype="Int64")
+WITH_MISSING = pd.Series([1, None]), pd.Series([1, None], dtype="Int64"), pd.Series(["a", None], dtype="category")
+# Calls with their arguments, and what is said of them.
+NO_GRAPHS = [
+    *((KEYED, (sources, ["b"], [1]), "lists of hashable ones") for sources in ([["a"]], 5, None)),
+    *((KEYED, (["a", missing], ["b", "c"], [1, 2]), "an arc has no key at an end") for missing in (None, np.nan, pd.NA, pd.NaT)),
+    *((FRAMED, (pd.DataFrame({"from": some, "to": [*some][::-1]}).assign(weight=1),), "no key at an end") for some in WITH_MISSING),
+    *((FRAMED, (pd.concat([PAIR, PAIR[[name]]], axis=1),), f"the frame has several columns {name}") for name in PAIR),
+    *((FRAMED, (PAIR.replace(4, pd.NA), *more), "weights have to be") for more in ((), ("from", "to", "weight", 10))),
+    *((KEYED, ("ab", "bc", [1.0, wrong], 1000), "weights times 1000 have to be from 0") for wrong in (-1.0, 5e6, float("nan"))),
+    *((call, (*some, scale), "the scale has to be above 0") for scale in (0, -1, float("inf"), float("nan"), "7")
+      for call, some in ((KEYED, ("a", "b", [0.5])), (domethyme.unscaled, (7,)))),
+    (domethyme.Graph, ([0], [1], [5], None, ["a"]), "keys of 1 nodes"),
+]
+
+
+@pytest.mark.parametrize("call, arguments, says", NO_GRAPHS)
+def test_graphs_that_are_refused(call, arguments, says):
+    with pytest.raises(ValueError, match=says):
+        call(*arguments)
 
 
 def test_frames_without_a_pair(tmp_path):
@@ -360,26 +365,7 @@ def test_frames_without_a_pair(tmp_path):
     for names in (["to"], ["from", "to"]):  # (levels of the index are columns too)
         graph = domethyme.Graph.from_frame(frame.set_index(names))
         assert [each.tolist() for each in (graph.from_nodes, graph.to_nodes, graph.weights)] == [[0, 1, 0], [1, 2, 2], [3, 4, 9]]
-    for name in ("from", "to", "weight"):
-        with pytest.raises(ValueError, match=f"the frame has several columns {name}"):
-            domethyme.Graph.from_frame(pd.concat([frame[:2], frame[:2][[name]]], axis=1))
-
-
-def test_weights_of_pandas_whole_numbers():
-    frame = pd.DataFrame({"from": [0, 1], "to": [1, 0], "weight": [3, 4]}, dtype="Int64")
-    assert domethyme.Graph.from_frame(frame).weights.tolist() == [3, 4]
-    frame.loc[1, "weight"] = pd.NA
-    for scale in (None, 10):
-        with pytest.raises(ValueError, match="weights have to be"):
-            domethyme.Graph.from_frame(frame, scale=scale)
-
-
-def test_the_recipe_of_the_page(tmp_path):
-    """The example of docs/PYTHON.md prints what it says."""
-    text = (ROOT / "docs/PYTHON.md").read_text(encoding="utf-8").partition("## The nearest depot")[2]
-    code = text.partition("```python\n")[2].partition("```")[0]
-    said = run_python(code, folder=tmp_path).stdout.splitlines()
-    assert said == re.findall(r"# (\{.*\})", code) and len(said) == 2
+    assert domethyme.Graph.from_frame(PAIR).weights.tolist() == [3, 4]
 
 
 def test_keys_that_are_saved(tmp_path):
@@ -422,15 +408,10 @@ def test_keys_that_are_saved(tmp_path):
 
 
 def test_keys_of_a_column(tmp_path):
-    """Of one type; several nodes have one where routes begin or end at a junction, and others can't be asked for."""
-    (tmp_path / "t.csv").write_text("osm,ends\n7,to\n8,\n7,from\n7,no\n,from\n9,to\n9,to\n")
-    keys, texts = domethyme.Keys.read(tmp_path / "t.csv"), domethyme.Keys(["-17", "KN-1"])
-    assert (keys.node(7), keys.end(7), keys.end(7, 2), keys.node(8)) == (2, 0, 2, 1)
-    assert (keys.begins(), keys.key(4), None in keys, [*texts]) == ({0: 2}, None, False, ["-17", "KN-1"])
-    for of, key, says in ((keys, 9, "9 names several nodes$"), (keys, "8", "'8' names no node; there is 8, a number$"),
-                          (texts, -17, "there is '-17', a text$")):
+    """Of one type; and the key of the other type that was meant."""
+    for known, key, says in (([7, 8], "8", "'8' names no node; there is 8, a number$"), (["-17"], -17, "there is '-17', a text$")):
         with pytest.raises(domethyme.NoSuchNode, match=says) as caught:
-            of.node(key)
+            domethyme.Keys(known).node(key)
         assert caught.value.key == key
     (tmp_path / "t.csv").write_text("shop\n7\n\"\"\nx\n")
     assert [*domethyme.Keys.read(tmp_path / "t.csv", "shop")] == ["7", None, "x"]
@@ -438,18 +419,6 @@ def test_keys_of_a_column(tmp_path):
     for count, kind in ((2, np.int64), (3, object)):
         found = great.of(np.arange(count))
         assert (found.dtype, found.tolist()) == (kind, [*great][:count])
-
-
-@pytest.mark.parametrize("text, out, kind, message, explained", [
-    ("a 1 2 x", "bad.rch", domethyme.GraphError, "routecli: graph: NotANumber line 2", "a.gr:2: a 1 2 x"),
-    ("a 1 2 3", "nowhere/g.rch", domethyme.ReadWriteError, "routecli: write", "nowhere"),
-])
-def test_a_refusal_with_its_explanation(tmp_path, text, out, kind, message, explained):
-    (tmp_path / "a.gr").write_text(f"p sp 2 1\n{text}\n")
-    with pytest.raises(kind) as caught:
-        domethyme.prepare(tmp_path / "a.gr", tmp_path / out)
-    assert caught.value.message == message and explained in caught.value.explanation[0]
-    assert str(caught.value) == "\n  ".join([message, *caught.value.explanation])
 
 
 def test_files_that_are_checked(tmp_path):

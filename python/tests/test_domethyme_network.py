@@ -7,8 +7,9 @@ from tool_case import VILLAGE
 
 import domethyme
 
-# The ends of nodes by their keys: of one junction with turn restrictions, and one node, and then of several.
-ENDS = [(7, ["from", "to", "no"]), (8, [""]), (3, ["from", "to", "from", "to"]), (4, ["", "from", "to"]), (5, ["from", "to", "to"])]
+# The ends of nodes by their keys: of one junction with turn restrictions, one node, one without a key, and then of several.
+ENDS = [(7, ["to", "from", "no"]), (8, [""]), ("", ["from"]), (3, ["from", "to", "from", "to"]), (4, ["", "from", "to"]),
+        (5, ["from", "to", "to"]), (6, ["to", "to"])]
 
 
 def test_a_relative_path(tmp_path, monkeypatch):
@@ -26,14 +27,16 @@ def test_a_relative_path(tmp_path, monkeypatch):
 def test_keys(tmp_path):
     """Those of a map, in which a bollard parts node 53, and of a table: a key of more than one junction can't be asked for."""
     run_tool("osm_to_gr", VILLAGE, tmp_path / "v", "--tables")
-    rows = [f"{key},{key / 1000},0,{end}" for key, ends in ENDS for end in ends]
+    rows = [f"{key},0,0,{end}" for key, ends in ENDS for end in ends]
     (tmp_path / "t.nodes.csv").write_text("\n".join(["node,osm,lon,lat,ends", *map("{},{}".format, range(1, 99), rows), ""]))
     of_map, own = (domethyme.Network(tmp_path / name) for name in "vt")
     assert (of_map.keys().node(1), 1 in of_map.keys(), 53 in of_map.keys()) == (0, True, False)
-    assert [own.keys().node(7), own.keys().end(7), own.keys().node(8), own.keys().end(8)] == [0, 1, 3, 3]
-    for network, key in [(of_map, 53), (own, 3), (own, 4), (own, 5)]:
-        with pytest.raises(domethyme.NoSuchNode, match=f"{key} names several nodes"):
-            network.keys().node(key)
+    keys = own.keys()
+    assert [keys.node(7), keys.end(7), keys.end(7, 1), keys.node(8), keys.end(8)] == [1, 0, 1, 3, 3]
+    assert (keys.begins(), keys.key(4), None in keys) == ({0: 1}, None, False)
+    for known, key in [(of_map.keys(), 53), *((keys, key) for key in (3, 4, 5, 6))]:
+        with pytest.raises(domethyme.NoSuchNode, match=f"{key} names several nodes$"):
+            known.node(key)
     with pytest.raises(domethyme.NetworkError, match="has no column name"):
         of_map.keys("name")
 

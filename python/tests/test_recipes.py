@@ -99,13 +99,14 @@ def test_own_data(clone, monkeypatch):
 
 
 @pytest.mark.parametrize("page, name", [
-    pytest.param(PYTHON_PAGE, "networkx", marks=pytest.mark.needs("import:networkx")),
-    pytest.param(PYTHON_PAGE, "osmnx", marks=pytest.mark.needs("import:osmnx")), (OWN_DATA, "pandas"),
-    pytest.param(PYTHON_PAGE, "folium", marks=[pytest.mark.needs("import:geopandas"), pytest.mark.needs("import:folium")]),
-], ids=["networkx", "osmnx", "pandas", "folium"])
+    pytest.param(PYTHON_PAGE, "import networkx", marks=pytest.mark.needs("import:networkx")),
+    pytest.param(PYTHON_PAGE, "import osmnx", marks=pytest.mark.needs("import:osmnx")), (OWN_DATA, "import pandas"),
+    pytest.param(PYTHON_PAGE, "import folium", marks=[pytest.mark.needs("import:geopandas"), pytest.mark.needs("import:folium")]),
+    (PYTHON_PAGE, "\ngraph = domethyme.Graph"),
+], ids=["networkx", "osmnx", "pandas", "folium", "depots"])
 def test_python(clone, page, name):
     """Each block prints what its comments say; the map is the village, moved to where the page asks."""
-    (block,) = blocks(page, f"import domethyme\nimport {name}\n")
+    (block,) = blocks(page, f"import domethyme\n{name}")
     (clone / "out/town.osm").write_text(TOWN)
     domethyme.from_osm(moved_village(clone), clone / "out/li").close()
     environment = {**os.environ, "PYTHONPATH": os.pathsep.join([str(ROOT / "python"), os.environ.get("PYTHONPATH", "")])}
@@ -114,7 +115,7 @@ def test_python(clone, page, name):
     assert ran.returncode == 0, ran.stderr
     assert ran.stdout.splitlines() == re.findall(r"print\(.*\) +# (.*)", block)
     made = [clone / f"out/{made}" for made in ("page.html", "routes.gpkg")]
-    assert name != "folium" or "geojson" in made[0].read_text().lower() and made[1].stat().st_size > 10_000
+    assert name != "import folium" or "geojson" in made[0].read_text().lower() and made[1].stat().st_size > 10_000
 
 
 class RecipeTests(NginxCase):
