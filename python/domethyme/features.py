@@ -37,8 +37,8 @@ def picture(network: "Network", features: list[Any], left_out: int = 0) -> str:
     """The SVG of features over the roads around them, as `draw` makes it, and how many more there are."""
     from .drawing.picture import svg_of
 
-    # (as a file of GeoJSON has them)
-    shown = svg_of(network.arrays, network.prefix, json.loads(json.dumps(features)), WIDTH)
+    # (as a file of GeoJSON has them, and keys that it can't have as texts)
+    shown = svg_of(network.arrays, network.prefix, json.loads(json.dumps(features, default=str)), WIDTH)
     return f"{shown}<p>and {left_out:,} more</p>" if left_out else shown
 
 

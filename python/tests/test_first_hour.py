@@ -1,4 +1,5 @@
 """A newcomer's first hour: a map in one call, progress, frames, pictures, and what is said of what nobody can have meant."""
+import fractions
 import importlib.machinery
 import importlib.util
 import itertools
@@ -105,6 +106,8 @@ def test_what_notebooks_and_others_know(village):
             with pytest.raises(ValueError, match="no network to draw on"):
                 shown.geojson()
     assert not any("more" in routes[:count]._repr_html_() for count in (1, 20))
+    with domethyme.Hierarchy(hierarchy.path, keys=map(fractions.Fraction, range(38)), network=hierarchy.network) as keyed:
+        assert keyed.route(0, 5)._repr_html_() == route._repr_html_()
     assert repr(hierarchy) == f"<Hierarchy {hierarchy.path} of 38 nodes and {hierarchy.links} links>"
     other = types.SimpleNamespace(geojson=lambda drawn: {"features": [type(drawn)]})
     assert (route.geojson(other), routes.geojson(other)) == (domethyme.Route, {"features": [domethyme.Routes]})
