@@ -164,6 +164,7 @@ def test_keys_of_another_graph(tmp_path, names):
             domethyme.Hierarchy(town, keys=keys)
     with contextlib.nullcontext() if can_be_saved else pytest.raises(ValueError, match="str or int"):
         keys.save(town)
+        domethyme.Hierarchy(firm, keys=keys).close()  # (they are keys of both)
         with domethyme.Hierarchy(town, keys=keys) as hierarchy:
             assert (hierarchy.length("a", "b"), hierarchy.keys.key(2)) == (7, "c")
     domethyme.Graph([0], [1], [5], nodes=3, keys=domethyme.Keys({"a": 0, "b": 1})).prepare(some, workers=1).close()

@@ -390,13 +390,6 @@ def test_keys_that_are_saved(tmp_path):
     saved.write_text(json.dumps(earlier), encoding="utf-8")
     assert [*domethyme.Keys.load(path)] == ["a", "b", 7]
     saved.write_text(whole, encoding="utf-8")
-    keys, other_path = domethyme.Keys.load(path), tmp_path / "other.rch"
-    domethyme.Graph([0, 1, 2], [1, 2, 0], [9, 9, 9]).prepare(other_path).close()
-    with pytest.raises(ValueError, match="were saved for another file than .*other.rch"):
-        domethyme.Hierarchy(other_path, keys=keys)
-    keys.save(other_path)
-    for each in (path, other_path):  # (they are keys of both)
-        domethyme.Hierarchy(each, keys=keys).close()
     domethyme.Graph([0, 1], [1, 0], [1, 1]).prepare(path).close()
     domethyme.Hierarchy(path, keys=["b", "a"]).close()
     no_file = [(name, "No such file") for name in ("nowhere", "firm.rch.keys")]

@@ -9,7 +9,7 @@ import domethyme
 
 # The ends of nodes by their keys: of one junction with turn restrictions, one node, one without a key, and then of several.
 ENDS = [(7, ["to", "from", "no"]), (8, [""]), ("", ["from"]), (3, ["from", "to", "from", "to"]), (4, ["", "from", "to"]),
-        (5, ["from", "to", "to"]), (6, ["to", "to"])]
+        (5, ["from", "to", "to"]), (6, ["to", "to"]), (2, ["no", "from"])]
 
 
 def test_a_relative_path(tmp_path, monkeypatch):
@@ -32,7 +32,7 @@ def test_keys(tmp_path):
     of_map, own = (domethyme.Network(tmp_path / name) for name in "vt")
     assert (of_map.keys().node(1), 1 in of_map.keys(), 53 in of_map.keys()) == (0, True, False)
     keys = own.keys()
-    assert [keys.node(7), keys.end(7), keys.end(7, 1), keys.node(8), keys.end(8)] == [1, 0, 1, 3, 3]
+    assert [keys.node(7), keys.end(7), keys.end(7, 1), keys.node(8), keys.end(8), keys.node(2), keys.end(2)] == [1, 0, 1, 3, 3, 18, 18]
     assert (keys.begins(), keys.key(4), None in keys) == ({0: 1}, None, False)
     for known, key in [(of_map.keys(), 53), *((keys, key) for key in (3, 4, 5, 6))]:
         with pytest.raises(domethyme.NoSuchNode, match=f"{key} names several nodes$"):
