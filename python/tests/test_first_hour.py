@@ -144,8 +144,8 @@ def test_places_of_geopandas(village):
     for name in ("to", "length", "seconds", "metres"):
         assert frame.loc["near", name] == features[0]["properties"][name]
     assert json.loads(json.dumps(frame.geometry["near"].__geo_interface__)) == features[0]["geometry"]
-    contours = hierarchy.within(places[0], [1, 2]).to_geodataframe()
-    assert (contours.crs, contours["contour"].tolist()) == (4326, [2, 1])
+    contours = hierarchy.within(places[0]).to_geodataframe()
+    assert (contours.crs, contours["contour"].tolist()) == (4326, [15, 10, 5])
     lines = geopandas.GeoDataFrame.from_features([wanted], crs=4326)
     assert lines.weight[0] == wanted.weight and lines.geometry[0].geom_type == "LineString"
 
