@@ -78,7 +78,8 @@ def test_as_the_model(data: Any) -> None:
             for some in (slice(3), *[slice(1, 4)] * (len(spots) > 2), slice(5)):
                 check_straight(made.roads, hierarchy.directions(snapped[some], continue_straight=True), points[some])
         for setting in SETTINGS:
-            check_tour(hierarchy.tour(snapped, **dict(zip(("roundtrip", "source", "destination"), setting))), weights, *setting)
+            words = {name: each for name, each in zip(("roundtrip", "source", "destination"), setting) if each not in (True, "any")}
+            check_tour(hierarchy.tour(snapped, **words), weights, *setting)
 
 
 @drawn(30)

@@ -31,9 +31,9 @@ def test_keys(tmp_path):
     (tmp_path / "t.nodes.csv").write_text("\n".join(["node,osm,lon,lat,ends", *map("{},{}".format, range(1, 99), rows), ""]))
     of_map, own = (domethyme.Network(tmp_path / name) for name in "vt")
     assert (of_map.keys().node(1), 1 in of_map.keys(), 53 in of_map.keys()) == (0, True, False)
-    keys = own.keys()
-    assert [keys.node(7), keys.end(7), keys.end(7, 1), keys.node(8), keys.end(8), keys.node(2), keys.end(2)] == [1, 0, 1, 3, 3, 18, 18]
-    assert (keys.begins(), keys.key(4), None in keys) == ({0: 1}, None, False)
+    for keys in (own.keys(), domethyme.Keys.read(tmp_path / "t.nodes.csv")):
+        assert [*map(keys.node, (7, 8, 2)), *map(keys.end, (7, 8, 2)), keys.end(7, 1)] == [1, 3, 18, 0, 3, 18, 1]
+        assert (keys.begins(), keys.key(4), None in keys) == ({0: 1}, None, False)
     for known, key in [(of_map.keys(), 53), *((keys, key) for key in (3, 4, 5, 6))]:
         with pytest.raises(domethyme.NoSuchNode, match=f"{key} names several nodes$"):
             known.node(key)

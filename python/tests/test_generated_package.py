@@ -279,15 +279,16 @@ def test_places(data: Any) -> None:
 
 
 def check_nearest(hierarchy: domethyme.Hierarchy, network: Network, place: Point, side: Any) -> None:
-    nodes, metres = network.nearest(place, side)
+    (nodes, metres), words = network.nearest(place, side), () if side == "from" else (side,)
     if metres > 1000:
         with pytest.raises(domethyme.NoSuchNode):
-            hierarchy.nearest(*place, side)
+            hierarchy.nearest(*place, *words)
         return
-    node, away = hierarchy.nearest(*place, side)
-    assert (node if hierarchy.keys is None else hierarchy.keys.node(node)) in nodes and abs(away - metres) < 1e-4
-    assert hierarchy.nearest(*place, side, radius=away) == (node, away)
-    many, all_away = hierarchy.nearest(*(np.full((1, 2), each) for each in place), side)
+    node, away = hierarchy.nearest(*place, *words)
+    number = node if hierarchy.keys is None else hierarchy.keys.node(node)
+    assert number in nodes and abs(away - metres) < 1e-4 and hierarchy.network.nearest(*place, *words) == (number, away)
+    assert hierarchy.nearest(*place, *words, radius=away) == (node, away)
+    many, all_away = hierarchy.nearest(*(np.full((1, 2), each) for each in place), *words)
     assert many.tolist() == [[node] * 2] and all_away.tolist() == [[away] * 2]
 
 

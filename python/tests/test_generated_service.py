@@ -120,8 +120,9 @@ def test_traces(data: Any) -> None:
 def check_match(hierarchy: domethyme.Hierarchy, request: Request, found: Any) -> None:
     """The package matches the same points as the service."""
     seconds = [int(word) for word in request.words("timestamps") if word] or None
-    more: Any = {"gaps": request.value("gaps", "split"), "tidy": request.value("tidy") == "true"}
-    match = hierarchy.match(request.places, seconds, deviation=matching.deviations(request), bearings=request.bearings(), **more)
+    deviation = matching.deviations(request) if request.value("radiuses") else None
+    more: Any = {"gaps": request.value("gaps"), "tidy": request.has("tidy"), "deviation": deviation}
+    match = hierarchy.match(request.places, seconds, bearings=request.bearings(), **{name: each for name, each in more.items() if each})
     ways: list[list[int]] = [[] for _ in found.get("matchings", [])]
     for number, point in enumerate(found.get("tracepoints", [])):
         place = match.places[number]
