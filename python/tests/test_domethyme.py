@@ -21,6 +21,7 @@ from domethyme import batch, errors, find_program, graphs
 
 # Four nodes: two ways from 0 to 2, of 3 + 4 = 7 and of 9; back from 2 to 0 by 5; node 3 leads to 0 by 6, and nothing to it.
 SQUARE = ([0, 1, 0, 2, 3], [1, 2, 2, 0, 0], [3, 4, 9, 5, 6])
+LARGE = [1 << 40, -5, 7, 9]
 
 
 @pytest.fixture(scope="module")
@@ -145,13 +146,6 @@ WRONG_GRAPHS = [
 ]
 
 
-@pytest.mark.parametrize("graph, says", WRONG_GRAPHS)
-def test_graphs_that_nobody_can_mean(tmp_path, graph, says):
-    with pytest.raises(ValueError, match=says):
-        domethyme.write_graph(tmp_path / "a.gr", *graph)
-    assert not (tmp_path / "a.gr").exists() and domethyme.Graph([0], [5], [1], nodes=1 << 25).nodes == 1 << 25
-
-
 NO_NODES = ("0", 0.0, None, True, np.True_, np.float64(0), np.array([0]), np.array(0.0), np.array([0, 1]), np.zeros((1, 2), int))
 NOT_WHOLE = ([0, 2.0], [0.0, np.uint64(2)], np.array([0, 2.0], object), np.array([True, 2], object), [True, 2], [np.True_, 2])
 # A method of the square's hierarchy, its arguments, what is said of them, and the key of a NoSuchNode.
@@ -265,9 +259,6 @@ def test_too_many_cells(square):
     assert caught.value.status == 6
 
 
-LARGE = [1 << 40, -5, 7, 9]
-
-
 @pytest.mark.parametrize("keys", [LARGE, np.array(LARGE), dict(zip(LARGE, range(4))), domethyme.Keys(LARGE)])
 def test_keys_given_as_numbers_arrays_or_mappings(square, keys):
     with domethyme.Hierarchy(square.path, keys=keys) as hierarchy:
@@ -308,6 +299,7 @@ def test_graphs_without_arcs_and_with_keys_of_a_list(tmp_path):
     with pytest.raises(domethyme.NoSuchNode, match="the hierarchy has no nodes"):
         domethyme.Graph([], [], []).prepare(tmp_path / "few.rch").reach([0])
     assert domethyme.Graph([0], [1], [5], keys=["a", "b"]).prepare(tmp_path / "few.rch").length("a", "b") == 5
+    assert domethyme.Graph([0], [5], [1], nodes=1 << 25).nodes == 1 << 25
     graph = domethyme.Graph.from_keys("ab", "ca", [1, 2])
     assert ([*graph.keys], repr(graph), repr(graph.keys)) == (["a", "b", "c"], "<Graph of 3 nodes and 2 arcs>", "<Keys of 3 nodes>")
 
@@ -342,7 +334,7 @@ NO_GRAPHS = [
     *((KEYED, ("ab", "bc", [1.0, wrong], 1000), "weights times 1000 have to be from 0") for wrong in (-1.0, 5e6, float("nan"))),
     *((call, (*some, scale), "the scale has to be above 0") for scale in (0, -1, float("inf"), float("nan"), "7")
       for call, some in ((KEYED, ("a", "b", [0.5])), (domethyme.unscaled, (7,)))),
-    (domethyme.Graph, ([0], [1], [5], None, ["a"]), "keys of 1 nodes"),
+    (domethyme.Graph, ([0], [1], [5], None, ["a"]), "keys of 1 nodes"), *((domethyme.Graph, *row) for row in WRONG_GRAPHS),
 ]
 
 
