@@ -1,11 +1,12 @@
 """Files to write that are whole after a with-block, or as they were before it. A write that fails raises OSError with the
-name of the file; the word `-` is standard output, as are its names in /dev.
+name of the file; the word `-` is standard output, as are its names in /dev. What is open already is written behind what it has.
 """
 import contextlib
 import errno
 import io
 import os
 import pathlib
+import re
 import shutil
 import stat
 import sys
@@ -16,6 +17,8 @@ from typing import IO, Any
 from .program import StrPath
 
 STANDARD_OUTPUT = ("-", "/dev/stdout", "/dev/fd/1")
+# The names of files that are open here.
+OPEN_FILE = re.compile("(?:/dev|/proc/self)/fd/([0-9]+)")
 
 
 @contextlib.contextmanager
@@ -27,6 +30,9 @@ def atomic_write(path: StrPath, mode: str = "w") -> Iterator[IO[Any]]:
             sys.stdout.reconfigure(encoding="utf-8", newline="\n")
         yield sys.stdout if mode == "w" else sys.stdout.buffer  # type: ignore[misc]
         sys.stdout.flush()
+    elif number := OPEN_FILE.fullmatch(str(path).replace("/dev/stderr", "/dev/fd/2")):
+        with add_paths_to_errors(path), open_to_write(os.dup(int(number[1])), mode) as file:
+            yield file
     elif os.path.exists(path) and not os.path.isfile(path):
         with add_paths_to_errors(path), open_to_write(path, mode) as file:
             yield file
@@ -46,7 +52,7 @@ def add_paths_to_errors(*paths: StrPath) -> Iterator[None]:
         raise
 
 
-def open_to_write(path: StrPath, mode: str) -> IO[Any]:
+def open_to_write(path: StrPath | int, mode: str) -> IO[Any]:
     return open(path, mode) if "b" in mode else open(path, mode, encoding="utf-8", newline="\n")
 
 

@@ -98,9 +98,10 @@ class OverwritingTests(ToolCase):
             words = [TOOLS / "nearest", "net", "trips.csv", "-o", "/dev/null", "--snapped", "/dev/null"]
             subprocess.run(words, cwd=self.folder, stdout=output, check=True)
         with open(self.folder / "told", "w") as file:
-            for output in ("-", "/dev/stdout", "/dev/fd/1"):
-                subprocess.run([TOOLS / "nearest", "net", "trips.csv", "-o", output], cwd=self.folder, stdout=file, check=True)
-        self.assertEqual((self.folder / "told").read_text().count("q 1 2"), 3)
+            for output in ("-", "/dev/stdout", "/dev/fd/1", "/proc/self/fd/1", "/dev/stderr", "/dev/fd/2"):
+                words = [TOOLS / "nearest", "net", "trips.csv", "-o", output]
+                subprocess.run(words, cwd=self.folder, stdout=file, stderr=file, check=True)
+        self.assertEqual((self.folder / "told").read_text().count("q 1 2"), 6)
         told = self.run_tool("nearest", "net", "trips.csv", "-o", "/dev/full", status=1)
         self.assertEqual(told.stderr, "nearest: /dev/full: No space left on device\n")
 
