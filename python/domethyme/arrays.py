@@ -30,7 +30,8 @@ def whole_numbers(name: str, values: "ArrayLike | list[Hashable]", low: int, hig
         objects = np.asarray(values, object)
         if are_whole and {bool, np.bool_} & {*map(type, objects.flat)}:
             raise ValueError(f"{name} have to be integers, and some are bool")
-        if not are_whole and not all(type(to_python_scalar(value)) is int for value in objects.flat):
+        # (times are numbers of numpy, in whatever unit they have)
+        if not are_whole and (array.dtype.kind in "mM" or not all(type(to_python_scalar(value)) is int for value in objects.flat)):
             places = f": {OF_PLACES[name]}" if array.dtype.kind == "f" and name in OF_PLACES else ""
             raise ValueError(f"{name} have to be integers, and are {array.dtype}{places}")
         array = array if are_whole else objects

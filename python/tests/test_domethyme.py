@@ -140,6 +140,7 @@ WRONG_GRAPHS = [
     (([0.0], [1], [1]), "from_nodes have to be integers, and are float64"), (([0], [1], ["x"]), "weights have to be integers"),
     (([0], [1], [-1]), "weights have to be from 0 to 4294967295, and are from -1 to -1"), (([0], [1], [1 << 32]), "weights have"),
     (([0], [-1], [1]), "to_nodes have to be from 0 to 33554431, and are from -1 to -1"), (([0], [2**63], [1]), "to_nodes have to"),
+    *((([0], [1], np.array([7], kind)), "weights have to be integers, and are .*ns") for kind in ("m8[ns]", "M8[ns]")),
     (([0], [1 << 25], [1]), "to_nodes have to be .*, and are from 33554432 to"), (([1 << 25], [1], [1]), "from_nodes have to be"),
     (([0], [1, 2], [1]), "as long as one another"), (([[0]], [[1]], [[1]]), "of one dimension"),
     *((([0], [5], [1], nodes), "an integer from 6, by the arcs, to 33554432") for nodes in (5, (1 << 25) + 1, 6.5, "7")),
