@@ -14,11 +14,13 @@ Progress = Union[bool, OnProgress]
 @contextlib.contextmanager
 def reporting(progress: Progress) -> Iterator[OnProgress]:
     """What receives the progress in the block. Raises ImportError for True without tqdm."""
-    if progress is True:
+    if callable(progress):
+        yield progress
+    elif progress:
         with contextlib.closing(Bars()) as bars:
             yield bars
     else:
-        yield progress or (lambda what, done, total: None)
+        yield lambda what, done, total: None
 
 
 @contextlib.contextmanager

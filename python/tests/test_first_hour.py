@@ -79,7 +79,7 @@ def test_progress_of_what_takes_long(tmp_path):
 def test_bars(capsys, monkeypatch):
     """Of what is done and how much there is; and of a single step the time."""
     monkeypatch.setattr("tqdm.std.time", itertools.count(0, 61).__next__)  # (each look at the clock is a minute later)
-    with reporting(True) as report:
+    with reporting(np.True_) as report:  # (as with True)
         for now in (("ways", 0, 20), ("ways", 5, 20), ("ways", 20, 20), ("files", 0, 1), ("files", 1, 1)):
             report(*now)
     said = capsys.readouterr().err
