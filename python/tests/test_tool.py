@@ -220,7 +220,7 @@ FAULTS = {
     "answers": [
         *((text, ", row 1: is no answer of routecli") for text in ("\n", "r 1 2 9\n", "n 1\n", "n 1 2 3\n", "x 1 2\n")),
         ("n 1 2\n\n", ", row 2: is no answer of routecli"), ("r 1 2 -1 1 1 2\n", ", row 1: the number '-1' isn't an integer"),
-        *((f"r 1 2 9 {route}\n", ODD) for route in ("2 1 2", "1 1 3", "1 3 2")),
+        *((f"r 1 2 9 {route}\n", ODD) for route in ("2 1 2", "0 1 2", "1 1 3", "1 3 2")),
     ],
 }
 
