@@ -615,13 +615,6 @@ class CutTests(RouteManyCase):
         self.many("--split-only")
         self.assert_answered()
 
-    def test_a_wrong_count_is_refused_at_the_cut(self):
-        self.write("pairs", "p aux sp p2p 3\nq 1 2\n")
-        ended = self.many("--split-only", status=5)
-        self.assertEqual(ended.stderr.splitlines()[0], "routecli: queries: ArcCount line 2")
-        self.assertIn("  pairs", ended.stderr)
-        self.assert_untouched()
-
 
 class DaskTests(RouteManyCase):
     """A scheduler and workers of Dask, all of them processes of this machine that speak over the loopback."""
@@ -648,24 +641,8 @@ class DaskTests(RouteManyCase):
         self.until(lambda: all("Registered to" in (self.folder / name).read_text() for name in names))
         return workers
 
-    def workers_at_work(self):
-        """The processes of the workers whose programs run now."""
-        return {int(worker) for process, worker, _ in self.begun() if is_running(int(process))}
-
-    def test_a_worker_is_killed_in_the_middle(self):
-        workers = self.start_workers("one", "two", "three")
-        program = self.held_program()
-        self.hold("all")
-        run = self.start_many("--dask", "scheduler.json", "--program", program)
-        self.until(lambda: self.workers_at_work() == {worker.pid for worker in workers})
-        lost = next(part for _, worker, part in self.begun() if int(worker) == workers[1].pid)
-        workers[1].kill()
-        self.release("all")
-        self.assert_ends(run)
-        self.assertEqual(self.parts_begun().count(lost), 2)
-        self.assert_answered()
-
     def test_it_waits_for_a_first_worker_and_for_a_late_one(self):
+        """A part whose worker died is begun anew, and none that is done."""
         self.until((self.folder / "scheduler.json").exists)
         program = self.held_program()
         self.hold("000003.pairs")
@@ -677,32 +654,22 @@ class DaskTests(RouteManyCase):
         self.release("000003.pairs")
         self.start_worker("late")
         self.assert_ends(run)
-        self.assertEqual(self.parts_begun().count("000000.pairs"), 1)
+        self.assertEqual([self.parts_begun().count(f"00000{part}.pairs") for part in (0, 3)], [1, 2])
         self.assert_answered()
 
-    def test_a_worker_with_another_hierarchy(self):
-        (self.folder / "stale").mkdir()
-        self.before.append("stale")
-        self.run_program([self.program, "prepare", "--workers", "0", "network.gr", "stale/network.rch"])
-        self.start_workers("right")
-        self.start_workers("stale-one", folder="stale")
-        hierarchy = "/proc/self/cwd/network.rch"
-        run = self.start_many("--dask", "scheduler.json", hierarchy=hierarchy)
-        self.assert_ends(run, 1)
-        self.assertEqual(self.said(), f"route_many: worker stale-one: {hierarchy} isn't the file that the run began with\n")
-        self.assert_untouched()
-
-    def test_a_late_worker_with_another_hierarchy(self):
+    def test_workers_with_another_hierarchy(self):
+        """One that comes late, and one that is there before."""
         (self.folder / "stale").mkdir()
         self.run_program([self.program, "prepare", "--workers", "0", "network.gr", "stale/network.rch"])
-        first = self.start_workers("right")[0]
-        hierarchy = "/proc/self/cwd/network.rch"
+        first, hierarchy = self.start_workers("right")[0], "/proc/self/cwd/network.rch"
         run, _ = self.held_at("000003.pairs", "--dask", "scheduler.json", hierarchy=hierarchy)
         self.start_workers("stale-one", folder="stale")
         first.kill()
+        says = f"route_many: worker stale-one: {hierarchy} isn't the file that the run began with\n"
         self.assert_ends(run, 1)
-        self.assertEqual(self.said(), f"route_many: worker stale-one: {hierarchy} isn't the file that the run began with\n")
-        self.assertEqual(self.answered(), ["000000.answers", "000001.answers", "000002.answers"])
+        self.assertEqual((self.said(), self.answered()), (says, [f"00000{part}.answers" for part in range(3)]))
+        self.assert_ends(self.start_many("--dask", "scheduler.json", "--restart", hierarchy=hierarchy), 1)
+        self.assertEqual((self.said(), (self.folder / "out.parts").exists()), (says, False))
 
     def test_bad_input(self):
         self.start_workers("one", "two")
