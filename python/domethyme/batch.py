@@ -124,13 +124,14 @@ def route_arrays(searcher: Searcher, source: int, target: int) -> tuple[int, NDA
 
 
 def map_chunks(
-    router: Router, query_chunk: Callable[[slice, Searcher], T], count: int, at_a_time: int = CHUNK_SIZE,
+    router: Router, query_chunk: Callable[[slice, Searcher], T], count: int, at_a_time: int | None = None,
     on_done: Callable[[int], object] = lambda done: None
 ) -> list[T]:
     """What `query_chunk` returns for each part of so many questions, in order. Each part has a searcher of its own while it is asked.
     `on_done` receives how many questions are answered, in this thread."""
     router.need_open()
-    parts = [slice(begin, begin + at_a_time) for begin in range(0, count, at_a_time)]
+    size = at_a_time or CHUNK_SIZE
+    parts = [slice(begin, begin + size) for begin in range(0, count, size)]
 
     def run_chunk(part: slice) -> T:
         with router.searcher() as searcher:

@@ -53,15 +53,16 @@ AHEAD = ARCS.replace("c,b,100\n", "")
     (ARCS, ARCS.replace("b,a,100\n", ""), NODES, "from node 2 to node 1 it has 100, where there is no arc"),
     (AHEAD, ARCS, NODES, "from node 3 to node 2 it lacks an arc"),
 ])
-def test_networks_that_differ(tmp_path, before, arcs, nodes, says):
+def test_networks_that_differ(tmp_path, monkeypatch, before, arcs, nodes, says):
     """Another number of nodes; a weight, heavier, lighter, or lighter where there is a shortcut; an arc more, and one less; and one
-    behind the last link. The same by a file of version 1, whose links are without their arcs."""
+    behind the last link. The same by a file of version 1, whose links are without their arcs, link by link."""
     right, other = made(tmp_path, "net", before), made(tmp_path, "other", arcs, nodes, False)
     path = tmp_path / "net.rch"
     data, begin = path.read_bytes(), 24 + 4 * 3
     rows = [data[at : at + 16] + data[at + 20 : at + 24] for at in range(begin, len(data), 24)]
-    for whole in (data, b"RCH1" + data[4:begin] + b"".join(rows)):
+    for whole, at_a_time in ((data, links.AT_A_TIME), (b"RCH1" + data[4:begin] + b"".join(rows), 1)):
         path.write_bytes(whole)
+        monkeypatch.setattr(links, "AT_A_TIME", at_a_time)
         with domethyme.Hierarchy(path, network=right) as hierarchy:
             assert (hierarchy.length(0, 2), hierarchy.links) == (200, len(rows))
         with pytest.raises(domethyme.WrongHierarchy, match=f"net.rch: {FOREIGN} .*: {says}"):

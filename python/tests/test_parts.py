@@ -102,8 +102,9 @@ def straight(drawn):
 
 def in_blocks(drawn):
     """The lengths and routes of many pairs."""
-    routes = drawn.hierarchy.routes([[row * 7 % 50, row % 40] for row in range(100)])
-    return plain([routes.lengths, [routes[row] for row in range(100)], drawn.hierarchy.lengths([[0, 5]] * 10)])
+    pairs = [[row * 7 % 50, row % 40] for row in range(100)]
+    routes = drawn.hierarchy.routes(pairs)
+    return plain([routes.lengths, [routes[row] for row in range(100)], drawn.hierarchy.lengths(pairs)])
 
 
 def summed(drawn):

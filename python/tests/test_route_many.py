@@ -190,7 +190,9 @@ class PartsTests(ToolCase):
 
     def test_parts_of_a_text(self):
         texts = [b"p aux sp p2p 2\nq 1 2\n\tq 3 4\r\n", b"p aux sp p2p 1\nq 5 6"]
-        self.assertEqual(self.cut(b"c\np aux sp p2p 3\nq 1 2\n\tq 3 4\r\n\nc q\nq 5 6", 2), (3, texts))
+        for most, count in ((3, 3), (2, None)):
+            with mock.patch.object(parts, "MAX_LINES", most):
+                self.assertEqual(self.cut(b"c\np aux sp p2p 3\nq 1 2\n\tq 3 4\r\n\nc q\nq 5 6", 2), (count, texts))
         self.assertEqual(self.cut(b"p aux sp p2p 0\n", 2), (0, [b"p aux sp p2p 0\n"]))
 
     def test_random_texts_are_refused_as_a_whole_where_they_would_be_as_one(self):
@@ -299,7 +301,8 @@ class OneMachineTests(RouteManyCase):
             self.assertEqual(self.answered(), ["000000.answers", "000001.answers"])
             (self.folder / "trouble").unlink()
             words = ["", "network.rch", "pairs", "out", "--pairs-per-part", str(PART), "--jobs", "1", "--program", str(program)]
-            with contextlib.chdir(self.folder), mock.patch("sys.argv", words), mock.patch("tqdm.tqdm") as bar:
+            blocks, arguments = mock.patch.object(route_many, "BLOCK", 100), mock.patch("sys.argv", words)
+            with contextlib.chdir(self.folder), blocks, arguments, mock.patch("tqdm.tqdm") as bar:
                 route_many.main()
             told = [call.kwargs.get(name) for call in bar.call_args_list for name in ("total", "initial")]
             updates = [call.args[0] for call in bar.return_value.__enter__.return_value.update.call_args_list]
