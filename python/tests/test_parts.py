@@ -16,7 +16,7 @@ from tool_case import TOOLS, VILLAGE
 
 import domethyme
 from domethyme import atomic_files, batch, belonging, dimacs, hierarchy_file, links
-from domethyme.network import from_tables, leg_tables, net_file, parallel, reach, snapping
+from domethyme.network import from_tables, leg_tables, net_file, reach, snapping
 from domethyme_service import tiles
 from domethyme.network import table_files
 from domethyme_tools import on_roads, table
@@ -141,7 +141,7 @@ def snapped(drawn):
     """Points of roads near places, of few and of many at once, and edges, also of few and of many."""
     roads, numbers = snapping.RoadIndex(drawn.network), [7 * row % 50 for row in range(40)]
     spots = [*map(tuple, (np.column_stack((drawn.network.node_lon[:40], drawn.network.node_lat[:40])) / 1e7 + 1e-4).tolist())]
-    found = [*roads.nearest_within(spots, [300.0] * 40), *roads.nearest_within(spots[:3], [1e3] * 3)]
+    found = [each for some in (spots, spots[:3], *zip(spots)) for each in roads.nearest_within(some, [300.0] * len(some))]
     edges = [roads.find_edges(some)[each] for some in (numbers, numbers[:5], numbers[30:34]) for each in some]
     return plain([found, roads.nearest_of_each(spots, 3, 300.0), edges])
 
@@ -151,7 +151,6 @@ CASES = [
     (hierarchy_file, "MAX_READ", lambda drawn: domethyme.Hierarchy(f"{drawn.prefix}.rch").length(0, 5)),
     (from_tables, "ARCS_AT_ONCE", straight),
     (net_file, "SECONDS_AT_A_TIME", lambda drawn: net_file.read(f"{drawn.prefix}.net").has_seconds),
-    (parallel, "SLICE_ROWS", lambda drawn: drawn.hierarchy.network.roads.nearest((0.1, 0.1), 3)),
     (reach, "CHUNK", reached),
     (from_tables, "LINES_AT_ONCE", read_again),
     *((snapping, name, snapped) for name in ("EDGE_CACHE_SIZE", "FEW_PLACES", "MANY_EDGES", "MAX_CANDIDATES", "PLACES_PER_BATCH")),
