@@ -41,9 +41,6 @@ while [ -e {folder}/hold-all ] || [ -e {folder}/hold-"$part" ]; do sleep 0.03; d
 exec {program} "$@"
 """
 
-# Then, for the part 000002.pairs alone: what a test has happen to it while `trouble` is there.
-IN_THE_MIDDLE = """[ "$part" = 000002.pairs ] && [ -e {folder}/trouble ] && {{ {trouble}; }}"""
-
 
 class RouteManyCase(ToolCase):
     """A test with a network of 300 nodes, some of them out of reach, 1,000 pairs in a text with all that it may have
@@ -79,9 +76,9 @@ class RouteManyCase(ToolCase):
         self.assertEqual(sorted(os.listdir(self.folder)), self.before)
 
     def held_program(self, trouble=None):
-        """The path of a program that is held, and what one process of it would make of the part 000002.pairs."""
+        """The path of a program that is held; and the part 000002.pairs alone has this trouble, while `trouble` is there."""
         folder = shlex.quote(str(self.folder))
-        then = IN_THE_MIDDLE.format(folder=folder, trouble=trouble) if trouble else ""
+        then = f'[ "$part" = 000002.pairs ] && [ -e {folder}/trouble ] && {{ {trouble}; }}' if trouble else ""
         text = HELD_PROGRAM.format(folder=folder, program=shlex.quote(self.program), then=then)
         path = self.write("held_program", text)
         path.chmod(0o755)
@@ -152,13 +149,6 @@ class RouteManyCase(ToolCase):
         """What an interrupted run says."""
         folder = self.folder.resolve() / "out.parts"
         return f"route_many: what is done is kept in {folder}; the same call resumes with it\n"
-
-    def goes_on_alone(self, program):
-        """The same call goes on without Dask, and begins no part again that is done."""
-        self.release("000003.pairs")
-        self.many("--jobs", 1, "--program", program)
-        self.assertEqual(self.parts_begun().count("000000.pairs"), 1)
-        self.assert_answered()
 
     def assert_ends(self, process, status=0):
         """The process ends, with the status."""
@@ -255,14 +245,6 @@ class OneMachineTests(RouteManyCase):
         self.assertIn("  standard input:2: q 1 x", said.splitlines())
         self.run_tool("route_many", "network.rch", "-", "out", given="p aux sp p2p 0\n")
         self.assertEqual((self.folder / "out").read_text(), "")
-
-    def test_a_linked_out_stays_a_link(self):
-        (self.folder / "elsewhere").mkdir()
-        (self.folder / "out").symlink_to("elsewhere/answers")
-        self.many("--jobs", 2)
-        self.assertTrue((self.folder / "out").is_symlink())
-        self.assertEqual((self.folder / "elsewhere/answers").read_text(), self.wanted)
-        self.assertEqual(os.listdir(self.folder / "elsewhere"), ["answers"])
 
     def test_arguments_that_are_refused(self):
         words = ["network.rch", "pairs", "out"]
@@ -565,22 +547,19 @@ class TwoCallsTests(RouteManyCase):
         self.many("--jobs", 2, "--restart")
         self.assert_answered()
 
-    def test_a_cut_that_was_not_finished_is_made_anew(self):
-        drafts = f"drafts-{'0' * 32}"
-        (self.folder / "out.parts" / drafts).mkdir(parents=True)
+    def test_what_others_have_left(self):
+        """What is there of a cut that was not finished is made anew, and files of others are left alone."""
+        drafts, others = f"drafts-{'0' * 32}", ["notes", "1.answers", "000000.answers.log", "000003.pairs.gz", "plan.json.bak"]
+        for folder in (drafts, "drafts-mine"):
+            (self.folder / "out.parts" / folder).mkdir(parents=True)
+        for name in [*others, "drafts-mine/notes"]:
+            self.write(f"out.parts/{name}", "of another\n")
+        kept = {**self.contents(), self.folder / "out": self.wanted.encode()}
         names = ["000000.pairs", "000000.answers", "000077.answers", "1000000.pairs", "plan.json.x.new", "whole.pairs"]
         for name in [*names, f"{drafts}/more", f"gone-{'0' * 32}"]:
             self.write(f"out.parts/{name}", "r 1 1 0 0 1\n")
         self.many("--jobs", 2)
-        self.assert_answered()
-
-    def test_files_of_others_are_left_alone(self):
-        (self.folder / "out.parts/drafts-mine").mkdir(parents=True)
-        for name in ["notes", "drafts-mine/notes", "1.answers", "000000.answers.log", "000003.pairs.gz", "plan.json.bak"]:
-            self.write(f"out.parts/{name}", "of another\n")
-        others = self.contents()
-        self.many("--jobs", 2, "--restart")
-        self.assertEqual(self.contents(), {**others, self.folder / "out": self.wanted.encode()})
+        self.assertEqual(self.contents(), kept)
 
     def test_a_full_disk_names_the_folder(self):
         words = [
@@ -686,19 +665,22 @@ class DaskTests(RouteManyCase):
         self.assertFalse((self.folder / "out.parts").exists())
         self.assertFalse((self.folder / "out").exists())
 
-    def test_the_scheduler_goes_away(self):
+    def stopped(self, stop, status, says):
+        """Stops a run in the middle. The same call goes on without Dask, and begins no part again that is done."""
         self.start_workers("one")
         run, program = self.held_at("000003.pairs", "--dask", "scheduler.json")
-        end(self.scheduler)
-        self.assert_ends(run, 1)
-        self.assertIn("scheduler.json: the scheduler went away; the same call resumes with the parts that are done\n", self.said())
-        self.goes_on_alone(program)
+        stop(run)
+        self.assert_ends(run, status)
+        self.assertRegex(self.said(), says)
+        self.assertEqual(self.answered(), ["000000.answers", "000001.answers", "000002.answers"])
+        self.release("000003.pairs")
+        self.many("--jobs", 1, "--program", program)
+        self.assertEqual(self.parts_begun().count("000000.pairs"), 1)
+        self.assert_answered()
+
+    def test_the_scheduler_goes_away(self):
+        says = "scheduler.json: the scheduler went away; the same call resumes with the parts that are done\n"
+        self.stopped(lambda _: end(self.scheduler), 1, says)
 
     def test_an_interrupt(self):
-        self.start_workers("one")
-        run, program = self.held_at("000003.pairs", "--dask", "scheduler.json")
-        run.send_signal(signal.SIGINT)
-        self.assert_ends(run, 130)
-        self.assertEqual(self.said(), self.kept_line())
-        self.assertEqual(self.answered(), ["000000.answers", "000001.answers", "000002.answers"])
-        self.goes_on_alone(program)
+        self.stopped(lambda run: run.send_signal(signal.SIGINT), 130, rf"\A{re.escape(self.kept_line())}\Z")
