@@ -86,9 +86,7 @@ def test_as_the_model(tmp_path: pathlib.Path, data: Any) -> None:
     for _ in range(4):
         request, codes = data.draw(requests(made, data.draw(st.sampled_from(["route", "nearest", "table", "trip", "match"]))))
         if "exclude" not in request.query and not codes:
-            # (junctions, at which steps begin, are those of all roads)
-            query = {key: text for key, text in request.query.items() if key != "steps"} | {"exclude": name}
-            check(wanted, service, request._replace(query=query), codes)
+            check(wanted, service, request._replace(query={**request.query, "exclude": name}), codes)
             check(made, service, request, codes)
     if is_flat:
         query = {"contours_meters": "300,700,2000", "polygons": "true", "exclude": name}
@@ -149,6 +147,21 @@ def test_a_ferry_beside_a_bridge(tmp_path, turn):
     assert len(free.points_on_roads((0.004, 0.0), snapping="any")) == 1
     with pytest.raises(domethyme.NoSuchNode, match="place 0 has no road"):
         free.points_on_roads((0.004, 0.0))
+
+
+def test_a_bend_at_a_road_that_is_left_out(tmp_path):
+    """No step begins there, as if there were no such road."""
+    (tmp_path / "nodes.csv").write_text("lon,lat\n0,0\n-0.01,0\n0,0.01\n0.01,0\n")
+    rows = "1,2,60,\n2,1,60,\n1,3,60,\n3,1,60,\n1,4,60,yes\n4,1,60,yes\n"
+    (tmp_path / "arcs.csv").write_text(f"from,to,seconds,toll\n{rows}")
+    run_tool("to_network", tmp_path / "nodes.csv", tmp_path / "arcs.csv", tmp_path / "net")
+    run_tool("without", tmp_path / "net", "toll", tmp_path / "few.gr")
+    for name in ("net", "few"):
+        domethyme.prepare(tmp_path / f"{name}.gr", tmp_path / f"{name}.rch").close()
+    service = serve(tmp_path / "net", {frozenset(["toll"]): tmp_path / "few.rch"})
+    for more, kinds in (("", ["depart", "continue", "arrive"]), ("&exclude=toll", ["depart", "arrive"])):
+        (leg,) = ask(service, f"/route/v1/car/-0.005,0;0,0.005?steps=true{more}")[1]["routes"][0]["legs"]
+        assert [step["maneuver"]["type"] for step in leg["steps"]] == kinds
 
 
 # Two islands with a road each, a ferry with a duration and one without, a toll bridge, and a road in a tunnel.

@@ -6,7 +6,8 @@ arc any more no route begins or ends. The graph of the others is the one of whic
 """
 import copy
 from collections.abc import Iterable
-from typing import IO
+from types import SimpleNamespace
+from typing import IO, Any
 
 import numpy as np
 from numpy.typing import NDArray
@@ -14,6 +15,7 @@ from numpy.typing import NDArray
 from ..dimacs import write_graph
 from .columns import ENDS, TEXTS
 from .groups import Ints, mask, offsets
+from .indexes import node_degrees
 from .net_file import MappedNetwork
 from .tables import ATTRIBUTION_COMMENT
 
@@ -46,7 +48,7 @@ def arcs_of(network: MappedNetwork, classes: Iterable[str]) -> NDArray[np.bool_]
 
 
 def without(network: MappedNetwork, classes: Iterable[str]) -> MappedNetwork:
-    """The network without the roads of the classes, and without what they cut off. It takes some 15 bytes an arc, and one a node."""
+    """The network without the roads of the classes, and without what they cut off. It takes some 15 bytes an arc, and two a node."""
     return with_arcs(network, network.are_open() & ~arcs_of(network, classes))
 
 
@@ -57,7 +59,10 @@ def with_arcs(network: MappedNetwork, is_kept: NDArray[np.bool_]) -> MappedNetwo
     starts, ends = network.arc_from[:], network.arc_to[:]
     is_in = in_largest(network.node_ends[:], starts[is_kept], ends[is_kept])
     is_kept = is_kept & is_in[starts] & is_in[ends]
-    view = copy.copy(network)
+    view, of_arcs = copy.copy(network), {"arc_from": starts, "arc_to": ends, "arc_edge": network.arc_edge[:]}
+    columns = {name: column[is_kept] for name, column in of_arcs.items()}
+    kept: Any = SimpleNamespace(node_osm=network.node_osm, edge_begin=network.edge_begin, **columns)
+    vars(view)["degrees"] = node_degrees(kept)
     for begins, arcs in (("out_begin", "out_arcs"), ("edge_first", "edge_arcs")):
         numbers = getattr(network, arcs)[:]
         vars(view)[arcs] = numbers[is_kept[numbers]]
