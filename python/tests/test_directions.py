@@ -18,8 +18,10 @@ from hypothesis import strategies as st
 from model.alternatives import alternatives as every_alternative
 from model.answers import Refused, figures, leg_line, straight_legs
 from model.network import Ambiguous, Arc, Network, Node
+from model.request import Request
+from model.steps import UNITS
 from reach_case import Road, prepared
-from test_generated_service import ask, open_service
+from test_generated_service import ask, check, open_service, target
 from tool_case import VILLAGE
 
 import domethyme
@@ -155,6 +157,14 @@ def test_alternatives(data: Any) -> None:
             check_alternative(made.tables, hierarchy.network.roads.arrays, leg, sides, first.weight)
             for other in [first, *found[:place]]:
                 assert sum(weight for arc, weight in zip(leg.arcs, leg.weights) if arc in other.arcs) <= 0.75 * first.weight
+        query = {"alternatives": "3", "radiuses": "unlimited;unlimited", "snapping": "any", **data.draw(st.fixed_dictionaries({
+            "steps": st.sampled_from(["true", "false"]), "overview": st.sampled_from(["full", "simplified", "false"]),
+            "annotations": st.sampled_from(["true", "false"]), "geometries": st.sampled_from(["geojson", "polyline6"])
+        }))}
+        service, request = open_service(pathlib.Path(folder) / "net"), Request("route", spots, query)
+        check(made, service, request, set())
+        weights = [route["weight"] for route in ask(service, target(request))[1]["routes"]]
+        assert weights == [each.weight / UNITS.get(made.roads.unit, 1) for each in shown]
         if is_fork:  # (of whose ways none is missing, and they come in order)
             with contextlib.suppress(Ambiguous):
                 net, arrays = made.roads, hierarchy.network.roads.arrays

@@ -1,11 +1,14 @@
 """Other routes between two points, by looking at all ways that come to no node twice: docs/SERVICE.md's other routes."""
 import itertools
+import math
 from collections.abc import Iterator, Sequence
 
-from .network import Ambiguous, Network, Part, SnappedPoint
+from .network import Ambiguous, Network, Part, SnappedPoint, direct_parts
 
 # Of the least weight: what another way weighs at most, its plateau at least, and what it shares at most. How many there are at most.
 STRETCH, LEAST_PLATEAU, MOST_SHARED, MOST = 1.25, 0.2, 0.75, 3
+# Beginnings of ways that are looked at.
+MOST_WAYS = 3000
 
 
 def alternatives(network: Network, start: SnappedPoint, end: SnappedPoint) -> list[list[Part]]:
@@ -45,16 +48,23 @@ def lengths(network: Network, point: SnappedPoint) -> dict[int, int]:
     return found
 
 
-def all_ways(network: Network, start: SnappedPoint, end: SnappedPoint) -> Iterator[list[Part]]:
-    """All ways that come to no node twice."""
-    last, begun = network.parts_at(end, False), [[part] for part in network.parts_at(start, True).values()]
-    while begun:
-        way = begun.pop()
-        if way[-1][0] in last:
-            yield [*way[:-1], last[way[-1][0]]]
-        nodes = {start.node, *(network.arcs[arc].end for arc, *_ in way)}
-        follow = (arc for arc in network.followers[way[-1][0]] if network.arcs[arc].end not in nodes)
-        begun += [[*way, (arc, 0.0, 1.0, network.arcs[arc].weight)] for arc in follow]
+def all_ways(network: Network, start: SnappedPoint, end: SnappedPoint, most: float = math.inf) -> Iterator[list[Part]]:
+    """All ways that come to no node twice, or where junctions are split by no arc twice, and weigh so much at most. Raises Ambiguous if
+    these are too many."""
+    first, last = network.parts_at(start, True), network.parts_at(end, False)
+    yield from ([part] for part in direct_parts(network, first, last))
+    begun = [[part] for part in first.values()]
+    for way in itertools.islice(begun, MOST_WAYS):
+        driven = {arc for arc, *_ in way}
+        nodes = {start.node, *(network.arcs[arc].end for arc in driven)} - {None}
+        for arc in network.followers[way[-1][0]]:
+            is_new = arc not in driven if network.forbidden else network.arcs[arc].end not in nodes
+            if arc in last and (is_new or end.node is None) and weight(way) + last[arc][3] <= most:
+                yield [*way, last[arc]]
+            if is_new and weight(way) + network.arcs[arc].weight <= most:
+                begun.append([*way, (arc, 0.0, 1.0, network.arcs[arc].weight)])
+    if len(begun) > MOST_WAYS:
+        raise Ambiguous
 
 
 def plateau(

@@ -1,4 +1,5 @@
 """The answers of the service to requests: what docs/SERVICE.md has of each endpoint with places."""
+import contextlib
 import functools
 import itertools
 import math
@@ -8,6 +9,7 @@ from typing import Any
 from comparing import AnyOf, Contour, Holds, Line, Near, Others, Simplified, difference
 
 from . import matching
+from .alternatives import STRETCH, all_ways, weight
 from .network import Ambiguous, Network, SnappedPoint
 from .request import ANNOTATIONS, Request
 from .sphere import Point, along, clip, metres_between
@@ -72,10 +74,12 @@ def route(network: Network, request: Request) -> Any:
     refuse("NoRoute", not all(options))
     every = straight_legs(network, points) if request.has("continue_straight") else choices(options)
     wholes = [route_along(network, request, points, legs, request.stops()) for legs in every]
-    low = wholes[0]["weight"].value
 
     def is_other(route: dict[str, Any]) -> bool:
-        return {*route} == {*wholes[0]} and len(route["legs"]) == 1 and low - 0.001 <= route["weight"] <= 1.25 * low + 0.001
+        with contextlib.suppress(Ambiguous):
+            ways = all_ways(network, points[0], points[1], STRETCH * weight(options[0][0]))
+            return any(not difference(route, route_along(network, request, points, [way], [0, 1])) for way in ways)
+        return True
 
     return AnyOf([{"code": "Ok", "routes": Others(whole, most, is_other), **shown} for whole in wholes])
 

@@ -246,10 +246,7 @@ class Network:
             return [[]]
         first, last = self.parts_at(start, True), self.parts_at(end, False)
         ended = self.ended(first.values())
-        direct = [
-            (arc, first[arc][1], last[arc][2], last[arc][3] - self.arcs[arc].weight + first[arc][3])
-            for arc in first.keys() & last.keys() if first[arc][1] <= last[arc][2]
-        ]
+        direct = direct_parts(self, first, last)
         come_to = [(ended[arc] + last[other][3], other) for arc in ended for other in self.followers[arc] if other in last]
         least = min([*(cost for cost, _ in come_to), *(part[3] for part in direct)], default=0)
         found = [[part] for part in direct if part[3] == least]
@@ -267,6 +264,14 @@ class Network:
             if len(found) + len(tails) > MOST_PATHS:
                 raise Ambiguous
         return found
+
+
+def direct_parts(network: Network, first: Mapping[int, Part], last: Mapping[int, Part]) -> list[Part]:
+    """The parts of arcs that lead from one point to another, by those that are left there and come to."""
+    return [
+        (arc, first[arc][1], last[arc][2], last[arc][3] - network.arcs[arc].weight + first[arc][3])
+        for arc in first.keys() & last.keys() if first[arc][1] <= last[arc][2]
+    ]
 
 
 def cheapest(starts: Iterable[tuple[int, int]], steps: Sequence[Sequence[tuple[int, int]]]) -> dict[int, int]:
