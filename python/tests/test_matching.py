@@ -37,14 +37,17 @@ def village(tmp_path_factory):
 
 @pytest.mark.parametrize("step, turn", [(0.0001, 1), (0.0001, -1), (0.0004, 1)])
 def test_a_drive_along_a_street(village, monkeypatch, step, turn):
-    """Each place is where it was drawn, some metres beside the street, and so is each leg's time, but for one that is too far."""
+    """Each place is where it was drawn, some metres beside the street, and so is each leg's time, but for one that is too far, and one
+    in another direction."""
     monkeypatch.setattr("domethyme.network.matching.STEPS_AT_ONCE", 2)
     trace = [(0.000304 + step * number, 0.00002 * (-1) ** number + 0.0002 * (number == 7)) for number in range(16)][::turn]
-    (way,), places = village.match(trace, deviation=np.float32(5), bearings=np.full((16, 2), (180 - 90 * turn, 30)))
-    far = 7 if turn == 1 else 8
-    assert way.points == [number for number in range(16) if number != far] and places[far] is None
+    bearings = np.full((16, 2), (180 - 90 * turn, 30))
+    bearings[5, 0] = 0
+    (way,), places = village.match(trace, deviation=np.float32(5), bearings=bearings)
+    lost = 5, 7 if turn == 1 else 8
+    assert way.points == [number for number in range(16) if number not in lost] and {places[each] for each in lost} == {None}
     for number, (place, (lon, lat)) in enumerate(zip(places, trace)):
-        if number != far:
+        if number not in lost:
             assert metres_between((place.lon, place.lat), (lon, 0.0)) < 0.2 and place.name == "High Street"
             assert place.metres == pytest.approx(abs(lat) * 1000 * STEP, abs=0.2)
     found, whole = way.directions, village.directions([(trace[end][0], 0.0) for end in (0, -1)])

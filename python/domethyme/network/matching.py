@@ -277,15 +277,20 @@ class Matcher:
     def _placed(
         self, stops: Sequence[SnappedPoint], legs: Sequence[Leg], between: Sequence[Sequence[int]]
     ) -> Iterator[list[tuple[int, SnappedPoint, Mark]]]:
-        """For each leg those of some points that are near it, each with the place on it, in order along it, for which the sum of squares of
-        the metres to them is least; and these places by their marks."""
+        """For each leg those of some points that are near it, and in its direction, each with the place on it, in order along it, for which
+        the sum of squares of the metres to them is least; and these places by their marks."""
         for begin in range(0, len(legs), STEPS_AT_ONCE):
             some = slice(begin, begin + STEPS_AT_ONCE)
             marks = nearest_marks(self._roads, legs[some], between[some], self._places, self._reach)
             for stop, leg, numbers, on_leg in zip(stops[some], legs[some], between[some], marks):
                 points = (point_at_mark(self._roads, leg, mark) if len(leg.arcs) else stop for mark in on_leg)
                 found = zip(numbers, map(self._at, numbers, points), on_leg)
-                yield [each for each in found if each[1].metres <= self._reach[each[0]]]
+                yield [each for each in found if each[1].metres <= self._reach[each[0]] and self._is_in_range(*each[:2])]
+
+    def _is_in_range(self, number: int, point: SnappedPoint) -> bool:
+        """Whether a point of the trace may be at a place on a leg, by the direction of the arc there."""
+        wanted = self._trace.ranges[number]
+        return wanted is None or wanted.contains(bearing_at(self._roads, self._roads.arc(min(point.arcs)), point.fraction))
 
     def _at(self, number: int, point: SnappedPoint) -> SnappedPoint:
         """A point on a road that stands for one of the trace."""
