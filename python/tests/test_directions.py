@@ -26,9 +26,8 @@ from tool_case import VILLAGE
 
 import domethyme
 from domethyme import batch, tours
-from domethyme.network import alternatives, directions
+from domethyme.network import directions
 from domethyme.network.bearings import BearingRange
-from domethyme.network.legs import find_leg
 from domethyme.protocol import FAR
 
 SETTINGS = list(itertools.product((True, False), ("any", "first"), ("any", "last")))
@@ -129,70 +128,30 @@ def forks(draw: Any) -> Drawn:
     return Drawn(roads, roads, False)
 
 
-@drawn(120)
-@given(st.data())
-def test_alternatives(data: Any) -> None:
-    """Each other leg is a path, differs enough, and has a plateau, by the model's lengths; no part that weighs less could be shorter."""
-    is_fork = data.draw(st.booleans())
-    made = data.draw(forks() if is_fork else networks())
-    shares = data.draw(st.tuples(st.sampled_from([0.0, 0.0, 0.7, 1.9, 2.4]), st.sampled_from([12.0, 12.0, 11.2, 10.1, 9.6])))
-    spots = [(0.001 * share, 0.0) for share in shares] if is_fork else data.draw(places(made.roads, 2))
+@drawn(100)
+@given(made=forks(), data=st.data())
+def test_alternatives(made: Drawn, data: Any) -> None:
+    """None of the model's other ways is missing, and they come in order; over HTTP with all that an answer has."""
+    spots = [(0.001 * data.draw(st.sampled_from(shares)), 0.0) for shares in ([0.0, 0.0, 0.7, 1.9, 2.4], [12.0, 12.0, 11.2, 10.1, 9.6])]
+    words = {"steps": ["true", "false"], "overview": ["full", "simplified", "false"], "annotations": ["true", "false"]}
+    query = {"alternatives": "3", **{name: data.draw(st.sampled_from(texts)) for name, texts in words.items()}}
     with tempfile.TemporaryDirectory() as folder:
         write_network(made, pathlib.Path(folder) / "net")
         hierarchy = domethyme.Hierarchy(f"{folder}/net.rch", network=f"{folder}/net")
-        start, end = hierarchy.network.points_on_roads(spots, math.inf, snapping="any")
-        shown = hierarchy.alternatives([start, end])
-        best, between = hierarchy.directions([start, end]), functools.partial(directions.ask_router, hierarchy._router)
-        assert shown[:1] == ([] if best is None else [best]) and hierarchy.alternatives([start, end], 1) == shown[:2]
-        first = find_leg(between, hierarchy.network.roads, start, end)
-        if first is None:
-            return
-        found = alternatives.alternatives(
-            hierarchy.network.roads, start, end, first, between,
-            lambda seeds, limit, towards: hierarchy.reach(dict(seeds), limit, towards), 3
-        )
-        assert [each.weight for each in found] == [each.weight for each in shown[1:]] and len(found) <= 3
-        sides = [{node: weight for node, (weight, _) in side.items()} for side in (start.exits, end.entries)]
-        for place, leg in enumerate(found):
-            check_alternative(made.tables, hierarchy.network.roads.arrays, leg, sides, first.weight)
-            for other in [first, *found[:place]]:
-                assert sum(weight for arc, weight in zip(leg.arcs, leg.weights) if arc in other.arcs) <= 0.75 * first.weight
-        query = {"alternatives": "3", "radiuses": "unlimited;unlimited", "snapping": "any", **data.draw(st.fixed_dictionaries({
-            "steps": st.sampled_from(["true", "false"]), "overview": st.sampled_from(["full", "simplified", "false"]),
-            "annotations": st.sampled_from(["true", "false"]), "geometries": st.sampled_from(["geojson", "polyline6"])
-        }))}
+        best, *found = shown = hierarchy.alternatives(spots)
+        assert best == hierarchy.directions(spots) and hierarchy.alternatives(spots, 1) == shown[:2]
         service, request = open_service(pathlib.Path(folder) / "net"), Request("route", spots, query)
         check(made, service, request, set())
-        weights = [route["weight"] for route in ask(service, target(request))[1]["routes"]]
-        assert weights == [each.weight / UNITS.get(made.roads.unit, 1) for each in shown]
-        if is_fork:  # (of whose ways none is missing, and they come in order)
-            with contextlib.suppress(Ambiguous):
-                net, arrays = made.roads, hierarchy.network.roads.arrays
-                ways = every_alternative(net, *(net.snap(spot, 1000.0) for spot in spots))
-                rows = [zip(leg.arcs.tolist(), leg.weights.tolist()) for leg in found]
-                shown = [[(arrays.arc_from[arc], arrays.arc_to[arc], weight) for arc, weight in leg] for leg in rows]
-                assert shown == [[(*net.arcs[arc][:2], weight) for arc, *_, weight in way] for way in ways]
-
-
-def check_alternative(net: Network, arrays: Any, leg: Any, sides: list[dict[int, int]], best: int) -> None:
-    there, back = net.lengths(sides[0]), net.turned.lengths(sides[1])
-    arcs, sums = leg.arcs.tolist(), [0, *itertools.accumulate(leg.weights.tolist())]
-    assert sums[-1] == leg.weight <= 1.25 * best
-    ends = [(int(arrays.arc_from[arc]), int(arrays.arc_to[arc])) for arc in arcs]
-    assert all(one[1] == other[0] for one, other in itertools.pairwise(ends))
-    # (the nodes, and what is driven to each: a leg may begin and end on a part of an arc)
-    nodes = [(ends[0][0], 0)] * (sides[0].get(ends[0][0]) == 0) + [(one[1], total) for one, total in zip(ends, sums[1:-1])]
-    nodes += [(ends[-1][1], sums[-1])] * (sides[1].get(ends[-1][1]) == 0)
-    assert len({node for node, _ in nodes}) == len(nodes)
-    tight = [there[node] == total and back[node] == leg.weight - total for node, total in nodes]
-    runs = [list(run) for is_tight, run in itertools.groupby(zip(nodes, tight), key=lambda row: row[1]) if is_tight]
-    plateau = max(run[-1][0][1] - run[0][0][1] for run in runs)
-    assert plateau >= 0.2 * best
-    for (node, total), (other, more) in itertools.combinations(nodes, 2):
-        assert more - total >= plateau or net.lengths({node: 0})[other] == more - total
-    for node, total in nodes:
-        assert total >= plateau or there[node] == total
-        assert leg.weight - total >= plateau or back[node] == leg.weight - total
+        factor = UNITS.get(made.roads.unit, 1)
+        routes = ask(service, target(request))[1]["routes"]
+        assert [round(factor * route["weight"]) for route in routes] == [each.weight for each in shown]
+    with contextlib.suppress(Ambiguous):
+        net, points = made.roads, [made.roads.snap(spot, 1000.0) for spot in spots]
+        for route, way in zip(found, every_alternative(net, *points), strict=True):
+            (leg,), whole = route.legs, in_seconds(figures(net, way))
+            assert (route.weight, leg.arcs) == (least_weight([way]), len(way))
+            assert not difference({"seconds": route.seconds, "metres": route.metres}, whole)
+            assert is_same_line(leg.line, leg_line(net, points[0], way, points[1]), 1.5e-6)
 
 
 @pytest.mark.parametrize("ways, forks, wanted", [
