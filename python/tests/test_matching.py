@@ -133,6 +133,16 @@ def test_places_that_decide(data):
             assert matcher._thinned(part) == model_matching.thinned(request, part)
 
 
+@pytest.mark.parametrize("count, step, most, wanted", [
+    (2501, 9.01e-7, 10**8, [0, 1198, 2396, 2500]), (10, 0.0, 25, [0, 3, 6, 9]), (2, 0.0, 1, [0, 1]), (1, 0.0, 10**8, [0]),
+])
+def test_places_that_decide_of_many(monkeypatch, count, step, most, wanted):
+    """Each k-th one if k steps are more than 120 m, or if none are the k up to which there is time."""
+    monkeypatch.setattr("domethyme.network.matching.MAX_STEPS", most)
+    matcher = Matcher(None, None, None, Trace([(step * number, 0.0) for number in range(count)], None, [20.0] * count, [None] * count))
+    assert matcher._thinned([*range(count)]) == wanted
+
+
 @drawn(250)
 @given(data=st.data())
 def test_ways_in_the_village(village, data):

@@ -38,8 +38,8 @@ REACH, MAX_ROADS, STEP = 3.0, 8, 6.0
 STAND = 2.0
 # Metres by which a path is longer or shorter, at a deviation of 0 and for each metre of it, of which the density is 1/e.
 SLACK, SLACK_BY_DEVIATION = 2.0, 0.1
-# The k of each k-th point, at most.
-MAX_STRIDE = 1000
+# How many steps are looked at for the k of each k-th point, at most.
+MAX_STEPS = 100_000_000
 # Metres by which a path may be longer than the great circle, and points in a row that may be left out.
 MAX_DETOUR, MAX_LEFT_OUT = 2000.0, 3
 # Steps whose ways are found by one table of the library.
@@ -137,11 +137,12 @@ class Matcher:
     def _thinned(self, numbers: list[int]) -> list[int]:
         """Each k-th point, and the last one."""
         vectors, least = self._vectors[numbers], STEP * self._deviations[numbers]
-        for stride in range(1, min(len(numbers), MAX_STRIDE)):
+        most = min(len(numbers), 1 + MAX_STEPS // len(numbers))
+        for stride in range(1, most):
             far = great_circle_metres(vectors[:-stride], vectors[stride:]) > np.maximum(least[:-stride], least[stride:])
             if 2 * np.count_nonzero(far) > len(far):
                 return [*numbers[:-1:stride], numbers[-1]]
-        return [numbers[0], *numbers[1:][-1:]]
+        return [*numbers[:-1:most], numbers[-1]]
 
     def _apart(self, one: int, other: int) -> float:
         return float(great_circle_metres(self._vectors[one], self._vectors[other]))
