@@ -302,6 +302,10 @@ UNSUPPORTED = coded("", NotImplemented=["toll", "nan", "0;1", "\0"])
 EXCLUDE = coded("", NotImplemented=["toll", "motorway,ferry"], InvalidValue=["nan", "0;1", "\0", "toll,toll", "toll,", "Toll"])
 WAYPOINTS = invalid(["", "0;1", "0;1;0;1", "0;0;1"], "0", "1", "1;0", "0,1", "0;1;", ";0;1", "0;99;1", "-1;1", "all", "0;x;1", "0;1 ", "\0")
 LIMITS = ("5,3", "5,5", "0", "1,2,3,4,5", "5;6", "1,,2", "1000001", "0.00001,0.000011")
+OF_LINES = {
+    "steps": YES_NO, "annotations": YES_NO, "geometries": invalid(["polyline", "polyline6", "geojson"], "wkt", "polyline7", ""),
+    "overview": invalid(["simplified", "full", "false"], "by_legs", "True", "", "simplified,full", "full "),
+}
 KNOWN: dict[str, dict[str, dict[str, Sequence[str]]]] = {
     "osrm": {
         "hints": coded("", "a;b"), "generate_hints": YES_NO, "skip_waypoints": YES_NO, "exclude": EXCLUDE,
@@ -309,24 +313,18 @@ KNOWN: dict[str, dict[str, dict[str, Sequence[str]]]] = {
         "format": coded("json", NotImplemented=["flatbuffers"], InvalidValue=["x", "json5", ""]),
     },
     "route": {
-        "alternatives": invalid(["true", "false", "3"], "1000", "1.5", "maybe", *WRONG), "waypoints": WAYPOINTS, "steps": YES_NO,
-        "overview": invalid(["simplified", "full", "false"], "by_legs", "True", "", "simplified,full", "full "),
-        "geometries": invalid(["polyline", "polyline6", "geojson"], "wkt", "polyline7", "geojson6", ""),
-        "annotations": YES_NO,
+        "alternatives": invalid(["true", "false", "3"], "1000", "1.5", "maybe", *WRONG), "waypoints": WAYPOINTS, **OF_LINES
     },
     "trip": {
-        "roundtrip": YES_NO, "source": invalid(["any", "first"], "last", "0", "", "first;"), "steps": YES_NO,
-        "destination": invalid(["any", "last"], "first", "", "last "), "overview": invalid(["simplified", "full", "false"], "x", ""),
-        "geometries": invalid(["polyline", "polyline6", "geojson"], "wkt"), "annotations": YES_NO,
+        "roundtrip": YES_NO, "source": invalid(["any", "first"], "last", "0", "", "first;"),
+        "destination": invalid(["any", "last"], "first", "", "last "), **OF_LINES
     },
     "match": {
         "timestamps": coded("0;1", "5;5", "1700000000;1700000009", InvalidQuery=["1", "1;2;3"], InvalidValue=[
             "1;0", "1;", ";", "1;x", "-1;2", "1.5;2", "1,2", "", "9999999999999;9999999999999"
         ]),
         "approaches": coded("", "unrestricted", "unrestricted;", NotImplemented=["curb", "unrestricted;curb", "opposite"]),
-        "gaps": invalid(["split", "ignore"], "Split", "", "true"), "tidy": YES_NO, "waypoints": WAYPOINTS, "steps": YES_NO,
-        "overview": invalid(["simplified", "full", "false"], "x", ""), "annotations": YES_NO,
-        "geometries": invalid(["polyline", "polyline6", "geojson"], "wkt"),
+        "gaps": invalid(["split", "ignore"], "Split", "", "true"), "tidy": YES_NO, "waypoints": WAYPOINTS, **OF_LINES,
         "radiuses": coded("5;5", "200;40", ";20", InvalidQuery=["5", "5;5;5"], InvalidValue=["0;5", "201;5", "unlimited;5", "5;nan", "-1;5"]),
     },
     "nearest": {"number": invalid(["1", "2", "5", "100"], "0", "101", "1.0", "9999", *WRONG)},
