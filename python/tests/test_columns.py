@@ -214,6 +214,24 @@ def test_names_that_are_numbers(names, folder):
             assert (hierarchy.length(1, 2), hierarchy.length(1, 3), [*hierarchy.network.keys()]) == (10, 30, [*map(int, names)])
 
 
+@pytest.mark.parametrize("nodes, keys", [
+    ("node,lon,lat,key\na,0,0,x\nb,1,1,\nc,2,2,\n", ["x", None, None]), ("node,lon,lat,key\nb,0,0,\na,1,1,\n", ["b", "a"]),
+    ("node,lon,lat\na,0,0\n,1,1\n,2,2\n", ["a", None, None])
+])
+def test_empty_fields_are_no_keys(folder, nodes, keys):
+    """In the network's file, and in tables, which are read where that isn't there. No arc names such a node."""
+    (folder / "nodes.csv").write_text(nodes)
+    (folder / "arcs.csv").write_text("from,to,weight\na,a,1\n")
+    run_tool("to_network", "nodes.csv", "arcs.csv", "net", "--tables")
+    for _ in range(2):
+        network = domethyme.Network("net")
+        assert ([*network.keys()], network.arrays.node("")) == (keys, None)
+        (folder / "net.net").unlink(missing_ok=True)
+    (folder / "arcs.csv").write_text("from,to,weight\na,,1\n")
+    with pytest.raises(domethyme.NetworkError, match="arcs.csv, row 2: to '' isn't in nodes.csv"):
+        run_tool("to_network", "nodes.csv", "arcs.csv", "other")
+
+
 def test_keys_of_a_table_that_was_replaced(folder):
     """Another column of the table beside the network is read later, and has to be of the same table."""
     table = folder / "firm.nodes.csv"

@@ -109,7 +109,7 @@ class Nodes:
 
 def read_nodes(path: StrPath, say: Say = lambda line: None, form: Form = Form(), is_beside_graph: bool = False) -> Nodes:
     """The nodes of a table of this form, or of a .co file; `say` gets a line for what may be meant otherwise. One beside its graph has all of
-    NODE_COLUMNS, and its nodes are numbered as there, in order. Raises NetworkError."""
+    NODE_COLUMNS, and its nodes are numbered as there, in order. An empty field is no name and no key. Raises NetworkError."""
     if is_coordinates(path):
         lon, lat = read_co(path).T.copy()
         own = {"node_osm": np.full(len(lon), NO_OSM), "node_lon": lon, "node_lat": lat, "node_ends": np.zeros(len(lon), np.uint8)}
@@ -127,13 +127,14 @@ def read_nodes(path: StrPath, say: Say = lambda line: None, form: Form = Form(),
             for name, column in OF_NODES.items():
                 values[name].append(read_value(fields, name, column))
             for name, into in named:
-                if into.setdefault(fields[name], number - 1) != number - 1:
+                if fields[name] and into.setdefault(fields[name], number - 1) != number - 1:
                     raise fields.error(f"{name} {excerpt(fields[name])} comes twice")
     if not 0 < len(values["lon"]) <= MAX_NODES:
         raise NetworkError(f"has {len(values['lon'])} nodes, and a network has from 1 to {MAX_NODES}", path)
     # (in a table as tools write it numbers are no names: without other keys its nodes have none)
     is_numbered = {*NODE_COLUMNS} <= {*columns} and all(name == str(node + 1) for name, node in rows.items())
-    shown_keys = list(keys) or ([] if is_numbered else list(rows))
+    key_of = {node: key for key, node in (keys or ({} if is_numbered else rows)).items()}
+    shown_keys = [key_of.get(node, "") for node in range(len(values["lon"]))] if key_of else []
     own = {f"node_{name}": np.array(column) for name, column in values.items()}
     own |= {name: np.round(own[name] * UNITS).astype(np.int32) for name in ("node_lon", "node_lat")}
     return Nodes(NodeArrays(own, shown_keys), rows if is_named else None, path, columns)

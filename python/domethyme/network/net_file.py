@@ -85,7 +85,8 @@ class Arrays(NetworkColumns):
 
 
 class NodeArrays(NamedTuple):
-    """Nodes: their columns, by the names in the file, places in units, of shape (nodes, 2), lon and lat, and keys, () for none."""
+    """Nodes: their columns, by the names in the file, places in units, of shape (nodes, 2), lon and lat, and keys, () for none, "" of a
+    node without one."""
 
     columns: dict[str, NDArray[Any]]
     keys: Sequence[str] = ()
@@ -370,7 +371,7 @@ class MappedNetwork(NetworkColumns):
         # (what is no text isn't that of a key, in which such a part is replaced)
         wanted, nodes = key.encode("utf-8", "surrogatepass"), self._key_nodes
         row = bisect.bisect_left(range(len(nodes)), wanted, key=lambda row: self._key_bytes(nodes[row]))
-        return int(nodes[row]) if row < len(nodes) and self._key_bytes(nodes[row]) == wanted else None
+        return int(nodes[row]) if wanted and row < len(nodes) and self._key_bytes(nodes[row]) == wanted else None
 
     @functools.cached_property
     def _key_nodes(self) -> Any:
