@@ -161,7 +161,7 @@ def one_kind(ids: Ints, kmh: Floats, number: Ints) -> Speeds:
 
 def speeds_of(rows: Any) -> Speeds:
     """The speeds of rows (from, to, kmh), or (way, kmh), or of a frame of pandas with these columns. Raises ValueError."""
-    if is_pandas(rows):
+    if is_pandas(rows) and rows.ndim == 2:
         found = [names for names in COLUMNS.values() if {*names} <= {*rows.columns}]
         if len(found) != 1:
             both = ", and not both" * len(found[1:])
