@@ -31,6 +31,7 @@ from domethyme.belonging import older_hierarchy
 from domethyme.network.from_tables import load_network_or_dimacs
 from domethyme.network.reweigh import read_speeds, write_reweighed
 from domethyme.network.tables import Files, paths_of
+from domethyme.opening import ENDING
 
 from .cli import argument_parser, display_name, refuse_overwriting, warn
 
@@ -47,6 +48,8 @@ def parse_args() -> argparse.Namespace:
     options = parser.parse_args()
     if not os.path.basename(options.out) or os.path.isdir(options.out):
         parser.error("OUT is a prefix of files, as out/now, and no folder")
+    if (prefix := ENDING.sub("", options.out)) != options.out:
+        parser.error(f"OUT is a prefix of files, as {prefix}, and {options.out} is the name of one")
     names = Files(options.out)
     refuse_overwriting(parser, [names.graph, names.binary, options.unmatched], [options.speeds, *paths_of(options.network)])
     return options

@@ -291,7 +291,7 @@ def test_refused(tmp_path: pathlib.Path) -> None:
         with pytest.raises(domethyme.NetworkError, match=says):
             run_tool("reweigh", network.removesuffix(".net"), "speeds.csv", out)
         assert not [*tmp_path.glob("new.*"), *tmp_path.glob("other.[gn]*")]
-    for out in ("map", ".", ""):
+    for out in ("map", ".", "", "new.net", "new.gr"):
         with pytest.raises(SystemExit, match="2"):
             run_tool("reweigh", "map", "speeds.csv", out)
 
@@ -310,7 +310,7 @@ def test_package() -> None:
     no_kmh = frame.assign(kmh=pandas.array([None, 5.5, 9], "Float64"))
     for speeds, says in (
         (np.array(rows), "ids have to be integers"), ([(1 << 63, 5)], "ids have to be from -9"),
-        *((wrong, "speeds have to be rows") for wrong in ([(1, 2, 3, 4)], None, [5], [(11, 5), 5])),
+        *((wrong, "speeds have to be rows") for wrong in ([(1, 2, 3, 4)], None, [5], [(11, 5), 5], frame["kmh"])),
         *((wrong, "kmh isn't from 0 to 1000") for wrong in ([(11, 1001)], [(11, -1)], [(11, np.nan)], no_kmh)),
         (frame.rename(columns={"from": "a"}), "a frame of speeds has to have the columns"), (frame.assign(way=11), "and not both"),
         *((pandas.concat([frame, frame[[name]]], axis=1), f"several columns {name}") for name in frame.columns),

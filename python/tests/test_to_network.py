@@ -74,8 +74,9 @@ def test_what_the_tool_refuses(folder):
     (folder / "half.csv").write_text("node,lon,lat\ndepot,0,0\nshop,180,0\n=farm,90,0\n")
     with pytest.raises(ToolError, match="arcs.csv: a line leads half round the earth"):
         run_tool("to_network", "half.csv", "arcs.csv", "net")
-    with pytest.raises(SystemExit, match="2"):
-        run_tool("to_network", "nodes.csv", "arcs.csv", ".")
+    for out in (".", "net.net", "net.rch"):  # (a network of the second name couldn't be opened by that)
+        with pytest.raises(SystemExit, match="2"):
+            run_tool("to_network", "nodes.csv", "arcs.csv", out)
     assert not [*folder.glob("net*")]
 
 
