@@ -113,6 +113,12 @@ def test_one_that_is_older_or_of_other_tables_is_not_read(village, tmp_path):
         run_tool("to_network", nodes, arcs, village, *words)
         found = net_file.read(f"{village}.net")
         assert (found.driving_side, found.mode) == (side, "walking")
+    nodes.unlink()
+    run_tool("osm_to_gr", VILLAGE, village)  # (which removes the other one, and has no tables)
+    for table, some in ((arcs, whole), (nodes, text.encode())):
+        assert net_file.is_current(village)
+        table.write_bytes(some)
+    assert not net_file.is_current(village)
 
 
 def test_an_archive_of_an_earlier_version(village, tmp_path):

@@ -144,12 +144,14 @@ def test_rows_that_are_refused(tmp_path, nodes, arcs, says):
     ("1,2,1001,1,0\n2,1,1999,2,0\n", "duration"), ("1,2,1000,1,10\n", "duration"), ("1,2,1001,0,10\n2,1,1999,1,20\n", "distance"),
     ("1,2,1002,1,0\n", "weight"), ("1,2,1000,1,0\n2,1,2000,0,0\n", "weight"), ("1,2,0,0,0\n", "weight")
 ])
-def test_units_of_weights(tmp_path, rows, unit):
+def test_units_of_weights(tmp_path, monkeypatch, rows, unit):
     """Milliseconds or centimetres to a rounding, of all arcs, if any has some."""
+    monkeypatch.setattr(net_file, "SECONDS_AT_A_TIME", 1)
     (tmp_path / "n.csv").write_text("lon,lat\n0,0\n0.00001,0\n")
     (tmp_path / "a.csv").write_text(f"from,to,weight,seconds,metres\n{rows}")
-    nodes = from_tables.read_nodes(tmp_path / "n.csv")
-    assert net_file.weight_unit(net_file.build_arrays(nodes.arrays, from_tables.read_arcs(tmp_path / "a.csv", nodes))) == unit
+    run_tool("to_network", tmp_path / "n.csv", tmp_path / "a.csv", tmp_path / "net")
+    found = net_file.read(tmp_path / "net.net")
+    assert (found.unit, found.has_seconds) == (unit, any(row.split(",")[3] != "0" for row in rows.split()))
 
 
 def test_kinds_of_roads():

@@ -333,16 +333,16 @@ def are_same_lines(found: list[list[Point]], expected: list[list[Point]]) -> boo
 @drawn(25)
 @given(st.data())
 def test_frames_keys_and_attribution(data: Any) -> None:
-    """Frames are the tables, whether these lie beside the network's file or not; and the file alone has the attribution."""
+    """Frames are the tables, whether these lie beside the network's file, or alone, or not; and the file alone has the attribution."""
     made = data.draw(networks())
     names = [KEYS["texts"](node) for node in range(len(made.tables.nodes)) if KEYS["texts"](node)]
     made.tables.nodes[:] = [node._replace(key=name) for node, name in zip(made.tables.nodes, [*names, "last"])]
     made = made._replace(has_keys=True)
     with tempfile.TemporaryDirectory() as folder:
         path = pathlib.Path(folder)
-        write_network(made, path / "net", "--attribution", "© the town", *data.draw(st.sampled_from([(), ("--tables",)])))
-        network = domethyme.Network(path / "net")
-        check_frames(made, network)
+        words = data.draw(st.sampled_from([(), ("--tables",)]))
+        write_network(made, path / "net", "--attribution", "© the town", *words)
+        check_frames(made, domethyme.Network(path / "net"))
         (path / "alone").mkdir()
         for suffix in ("net", "rch"):
             shutil.copy(path / f"net.{suffix}", path / f"alone/net.{suffix}")
@@ -351,6 +351,9 @@ def test_frames_keys_and_attribution(data: Any) -> None:
         run_tool("to_geojson", path / "alone/net", path / "alone/answers", "-o", path / "alone/routes")
         assert '"attribution":"© the town"' in (path / "alone/routes").read_text()
         check_frames(made, domethyme.Network(path / "alone/net"))
+        if words:
+            (path / "net.net").unlink()
+            check_frames(made, domethyme.Network(path / "net"))
 
 
 def check_frames(made: Drawn, network: Any) -> None:
