@@ -318,7 +318,9 @@ def test_package() -> None:
     ):
         with pytest.raises(ValueError, match=says):
             network.reweigh(speeds, "own")
-    assert arcs_of("own") == before
+    with pytest.raises(ValueError, match="out is the network itself, whose ./map.net would be overwritten"):
+        network.reweigh(rows, "./map")
+    assert arcs_of("own") == arcs_of("map") == before
 
 
 @pytest.mark.parametrize("rows, says", [

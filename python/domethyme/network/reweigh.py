@@ -9,6 +9,7 @@ import dataclasses
 import functools
 import io
 import itertools
+import os
 import warnings
 from collections.abc import Sequence
 from typing import Any, NamedTuple
@@ -295,8 +296,10 @@ def reweigh(network: MappedNetwork, speeds: Speeds) -> tuple[MappedNetwork, Rewe
 
 def write_reweighed(network: MappedNetwork, speeds: Speeds, out: StrPath) -> Reweighed:
     """Writes the files of the network with these speeds, OUT.gr and OUT.net, both or none. Raises as `reweigh`, NetworkError for tables
-    that would be read in the place of OUT.net, and OSError."""
+    that would be read in the place of OUT.net, ValueError where it is the network itself, and OSError."""
     names = Files(out)
+    if os.path.realpath(names.binary) == os.path.realpath(network.path):
+        raise ValueError(f"out is the network itself, whose {names.binary} would be overwritten")
     for table, columns in ((names.nodes, NODE_COLUMNS), (names.arcs, ARC_COLUMNS)):
         if has_columns(table, columns):
             raise NetworkError(f"is there, and would be read in place of {names.binary}: remove it, or choose another OUT", table)
