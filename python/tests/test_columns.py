@@ -69,8 +69,10 @@ def test_tables_dimacs_files_and_answers_of_gzip(folder):
         assert (folder / f"{out}.gr").read_bytes() == graph
     assert read_graph("x.gr.gz") == read_graph("packed.gr")
     assert "q 1 3\n" in run_tool("nearest", "x.co.gz", "trips.csv")[0]
-    for network in ("packed", "x.co.gz"):
+    for network in ("x.co.gz", "packed", "x.co.gz"):
         assert '"length":34693' in run_tool("to_geojson", network, "answers.gz")[0]
+        (folder / "x.gr").write_bytes(graph)  # (which is read in place of the other one)
+        (folder / "x.gr.gz").write_text("p sp 1 0\n")
 
 
 @pytest.mark.parametrize("nodes, arcs, unused", [

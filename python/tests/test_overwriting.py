@@ -2,12 +2,13 @@
 import argparse
 import itertools
 import os
+import pathlib
 import subprocess
 import sys
 
 import pytest
-from draws import run_tool
-from tool_case import TOOLS, VILLAGE, ToolCase
+from draws import assert_refused, run_tool
+from tool_case import TOOLS, VILLAGE
 
 import domethyme
 from domethyme.network import from_tables
@@ -54,7 +55,8 @@ def test_no_output_is_an_input(tmp_path, monkeypatch, call, outputs):
 TWICE = [
     "nearest net trips.csv -o out --snapped ./out", "nearest net trips.csv --snapped -", "reweigh net places.csv out --unmatched out.gr",
     "reweigh net places.csv out --unmatched ./out.net", "table net net.rch places.csv trips.csv -o out --metres out",
-    "table net net.rch places.csv trips.csv --metres -", "table net net.rch places.csv trips.csv -o /dev/stdout --metres -"
+    "table net net.rch places.csv trips.csv --metres -", "table net net.rch places.csv trips.csv -o /dev/stdout --metres -",
+    "table net net.rch places.csv trips.csv -o - --metres /dev/fd/1", "table net net.rch a.csv b.csv -o /dev/fd/1 --metres /dev/stdout"
 ]
 
 
@@ -72,88 +74,82 @@ def test_no_output_is_another(tmp_path, monkeypatch, call, outputs):
         os.unlink(link)
 
 
-class OverwritingTests(ToolCase):
-    def setUp(self):
-        super().setUp()
-        self.write("firm.nodes.csv", NODES)
-        self.write("firm.arcs.csv", ARCS)
-        self.write("trips.csv", TRIPS)
+@pytest.fixture
+def folder(tmp_path, monkeypatch):
+    """The folder in which the test runs, with tables of a user."""
+    monkeypatch.chdir(tmp_path)
+    for name, text in (("firm.nodes.csv", NODES), ("firm.arcs.csv", ARCS), ("trips.csv", TRIPS)):
+        (tmp_path / name).write_text(text)
+    return tmp_path
 
-    def assert_kept(self, *words, says, status=2, given=None):
-        """Wants a call refused, with nothing written."""
-        before = self.contents()
-        self.assertIn(says, self.run_tool(*words, status=status, given=given).stderr)
-        self.assertEqual(self.contents(), before)
 
-    def test_standard_input_and_output(self):
-        """What is written to a file is behind what it has already; a full disk is named."""
-        self.run_tool("to_network", "firm.nodes.csv", "firm.arcs.csv", "net")
-        before = self.contents()
-        with open(self.folder / "trips.csv", encoding="utf-8") as trips:
-            words = [str(TOOLS / "nearest"), "net", "-", "-o", "trips.csv"]
-            ended = subprocess.run(words, stdin=trips, cwd=self.folder, capture_output=True, text=True)
-        self.assertEqual((ended.returncode, self.contents()), (2, before))
-        self.assertIn("trips.csv and standard input are one file: it would be overwritten", ended.stderr)
-        for output in (subprocess.PIPE, subprocess.DEVNULL):
-            words = [TOOLS / "nearest", "net", "trips.csv", "-o", "/dev/null", "--snapped", "/dev/null"]
-            subprocess.run(words, cwd=self.folder, stdout=output, check=True)
-        with open(self.folder / "told", "w") as file:
-            for output in ("-", "/dev/stdout", "/dev/fd/1", "/proc/self/fd/1", "/dev/stderr", "/dev/fd/2"):
-                words = [TOOLS / "nearest", "net", "trips.csv", "-o", output]
-                subprocess.run(words, cwd=self.folder, stdout=file, stderr=file, check=True)
-        self.assertEqual((self.folder / "told").read_text().count("q 1 2"), 6)
-        told = self.run_tool("nearest", "net", "trips.csv", "-o", "/dev/full", status=1)
-        self.assertEqual(told.stderr, "nearest: /dev/full: No space left on device\n")
+def contents():
+    return {path: path.read_bytes() for path in pathlib.Path().iterdir()}
 
-    def test_two_outputs_are_standard_output(self):
-        for one, other in itertools.product(("-", "/dev/stdout", "/dev/fd/1"), repeat=2):
-            words = "table", "net", "net.rch", "a.csv", "b.csv", "-o", one, "--metres", other
-            self.assert_kept(*words, says="two outputs are standard output")
 
-    def test_tables_of_a_user(self):
-        """They are neither overwritten nor removed, and are never read in place of the network's file."""
-        before = self.contents()
-        self.run_tool("osm_to_gr", VILLAGE, "firm")
-        self.assertEqual({path: text for path, text in self.contents().items() if path.suffix == ".csv"}, before)
-        self.assertGreater(len(from_tables.load_network(str(self.folder / "firm")).node_osm), 10)
-        self.assert_kept("osm_to_gr", VILLAGE, "firm", "--tables", status=1, says="firm.nodes.csv: is there, and no tool has written it")
-        self.write("other.csv", NODES)
-        self.assert_kept("to_network", "other.csv", "firm.arcs.csv", "firm", "--tables", says="firm.arcs.csv and firm.arcs.csv are one")
-        words = "to_network", "other.csv", self.write("others.csv", ARCS), "firm", "--tables"
-        self.assert_kept(*words, status=1, says="firm.nodes.csv: is there, and no tool has written it")
-        self.assertIn("weight", domethyme.Network(self.folder / "firm").arcs_frame().columns)
+def test_standard_input_and_output(folder):
+    """What is written to a file is behind what it has already; a full disk is named."""
+    run_tool("to_network", "firm.nodes.csv", "firm.arcs.csv", "net")
+    before, nearest = contents(), [TOOLS / "nearest", "net"]
+    with open("trips.csv", encoding="utf-8") as trips:
+        ended = subprocess.run([*nearest, "-", "-o", "trips.csv"], stdin=trips, capture_output=True, text=True)
+    assert (ended.returncode, contents()) == (2, before)
+    assert "trips.csv and standard input are one file: it would be overwritten" in ended.stderr
+    for output in (subprocess.PIPE, subprocess.DEVNULL):
+        subprocess.run([*nearest, "trips.csv", "-o", "/dev/null", "--snapped", "/dev/null"], stdout=output, check=True)
+    with open("told", "w") as file:
+        for output in ("-", "/dev/stdout", "/dev/fd/1", "/proc/self/fd/1", "/dev/stderr", "/dev/fd/2"):
+            subprocess.run([*nearest, "trips.csv", "-o", output], stdout=file, stderr=file, check=True)
+    assert pathlib.Path("told").read_text().count("q 1 2") == 6
+    ended = subprocess.run([*nearest, "trips.csv", "-o", "/dev/full"], capture_output=True, text=True)
+    assert (ended.returncode, ended.stderr) == (1, "nearest: /dev/full: No space left on device\n")
 
-    def test_tables_that_a_tool_has_written(self):
-        self.run_tool("osm_to_gr", VILLAGE, "v", "--tables")
-        self.assert_kept("osm_to_gr", self.write("bare.osm", "<osm version='0.6'/>"), "v", status=1, says="has no road")
-        self.write("v.arcs.prj", "my own")
-        said = self.run_tool("osm_to_gr", VILLAGE, "v").stderr
-        self.assertIn("osm_to_gr: removed v.nodes.csv, v.arcs.csv, v.nodes.csvt, v.nodes.prj, v.arcs.csvt, which were of", said)
-        self.assertEqual(sorted(path.suffix for path in self.folder.glob("v.*")), [".gr", ".net", ".prj"])
-        says = "v.arcs.prj: is there, and no tool has written it: move it, or choose another OUT"
-        self.assert_kept("osm_to_gr", VILLAGE, "v", "--tables", status=1, says=says)
-        self.assert_kept("to_network", "firm.nodes.csv", "firm.arcs.csv", "v", "--tables", status=1, says=says)
-        (self.folder / "v.arcs.prj").unlink()
-        self.run_tool("osm_to_gr", VILLAGE, "v", "--tables")
-        with open(self.folder / "v.arcs.csv", "a", encoding="utf-8") as file:
-            file.write("1,2,7,1,1,0,,,\n")
-        says = "has changed since v.net was made of it: move it, or choose another OUT"
-        self.assert_kept("osm_to_gr", VILLAGE, "v", status=1, says=says)
-        self.assert_kept("to_network", "firm.nodes.csv", "firm.arcs.csv", "v", "--tables", status=1, says=says)
 
-    def test_own_tables_that_were_edited(self):
-        """Beside the network that was made of both of them, or of one: a sentence, and no other table is read."""
-        self.write("others.csv", NODES)
-        for nodes in ("firm.nodes.csv", "others.csv"):
-            net = "firm" if nodes == "firm.nodes.csv" else "edit"
-            arcs = self.write(f"{net}.arcs.csv", ARCS).name
-            self.run_tool("to_network", nodes, arcs, net)
-            self.assertIn("q 1 2", self.run_tool("nearest", net, "trips.csv").stdout)
-            self.write(arcs, ARCS.replace("50", "60"))
-            says = f"{arcs}: has changed since {net}.net was made of it: run `to_network` again"
-            self.assert_refused("nearest", net, "trips.csv", says=says)
-            with self.assertRaisesRegex(domethyme.NetworkError, f"{arcs}: has changed since"):
-                domethyme.Network(self.folder / net).arcs_frame()
-            self.run_tool("to_network", nodes, arcs, net)
-            self.assertIn("q 1 2", self.run_tool("nearest", net, "trips.csv").stdout)
-        self.assertEqual(domethyme.Network(self.folder / "firm").arcs_frame()["from"].tolist(), [0, 1])
+def test_tables_of_a_user(folder):
+    """They are neither overwritten nor removed, and are never read in place of the network's file."""
+    before = contents()
+    run_tool("osm_to_gr", VILLAGE, "firm")
+    assert {path: text for path, text in contents().items() if path.suffix == ".csv"} == before
+    assert len(from_tables.load_network("firm").node_osm) > 10
+    (folder / "other.csv").write_text(NODES)
+    (folder / "others.csv").write_text(ARCS)
+    assert_refused("to_network", "other.csv", "firm.arcs.csv", "firm", "--tables", says="")
+    for words in (("osm_to_gr", VILLAGE), ("to_network", "other.csv", "others.csv")):
+        assert_refused(*words, "firm", "--tables", says="firm.nodes.csv: is there, and no tool has written it")
+    assert "weight" in domethyme.Network("firm").arcs_frame().columns
+
+
+def test_tables_that_a_tool_has_written(folder):
+    run_tool("osm_to_gr", VILLAGE, "v", "--tables")
+    (folder / "bare.osm").write_text("<osm version='0.6'/>")
+    assert_refused("osm_to_gr", "bare.osm", "v", says="has no road")
+    own, calls = folder / "v.arcs.prj", (("osm_to_gr", VILLAGE), ("to_network", "firm.nodes.csv", "firm.arcs.csv"))
+    own.write_text("my own")
+    said = run_tool("osm_to_gr", VILLAGE, "v")[1]
+    assert "osm_to_gr: removed v.nodes.csv, v.arcs.csv, v.nodes.csvt, v.nodes.prj, v.arcs.csvt, which were of" in said
+    assert sorted(path.suffix for path in folder.glob("v.*")) == [".gr", ".net", ".prj"]
+    for words in calls:
+        assert_refused(*words, "v", "--tables", says="v.arcs.prj: is there, and no tool has written it: move it, or choose another OUT")
+    own.unlink()
+    run_tool("osm_to_gr", VILLAGE, "v", "--tables")
+    with open("v.arcs.csv", "a", encoding="utf-8") as file:
+        file.write("1,2,7,1,1,0,,,\n")
+    for words in ((*calls[0], "v"), (*calls[1], "v", "--tables")):
+        assert_refused(*words, says="has changed since v.net was made of it: move it, or choose another OUT")
+
+
+def test_own_tables_that_were_edited(folder):
+    """Beside the network that was made of both of them, or of one: a sentence, and no other table is read."""
+    for net, nodes in (("firm", "firm.nodes.csv"), ("edit", "others.csv")):
+        arcs = f"{net}.arcs.csv"
+        for name, text in ((nodes, NODES), (arcs, ARCS)):
+            (folder / name).write_text(text)
+        run_tool("to_network", nodes, arcs, net)
+        assert "q 1 2" in run_tool("nearest", net, "trips.csv")[0]
+        (folder / arcs).write_text(ARCS.replace("50", "60"))
+        assert_refused("nearest", net, "trips.csv", says=f"{arcs}: has changed since {net}.net was made of it: run `to_network` again")
+        with pytest.raises(domethyme.NetworkError, match=f"{arcs}: has changed since"):
+            domethyme.Network(net).arcs_frame()
+        run_tool("to_network", nodes, arcs, net)
+        assert "q 1 2" in run_tool("nearest", net, "trips.csv")[0]
+    assert domethyme.Network("firm").arcs_frame()["from"].tolist() == [0, 1]

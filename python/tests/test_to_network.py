@@ -9,8 +9,8 @@ import pytest
 from draws import drawn, run_tool
 from hypothesis import given
 from hypothesis import strategies as st
-from service_case import ServiceCase
-from tool_case import read_rows
+from test_generated_service import ask, open_service
+from tool_case import VILLAGE, read_rows
 
 import domethyme
 from domethyme.csv_tables import escape_formula, unescape_formula
@@ -110,7 +110,7 @@ def test_dimacs_files_in_another_form(tmp_path, co, gr):
 
 
 def test_a_network_of_dimacs_files(tmp_path):
-    arrays = dimacs(tmp_path, gr=f"c attribution: Us\n{GR}")
+    arrays = dimacs(tmp_path, gr=f"c\nc attribution: Us\n{GR}")
     columns = (arrays.arc_from, arrays.arc_to, arrays.arc_weight, arrays.arc_seconds, arrays.arc_metres)
     assert [*zip(*(column[:].tolist() for column in columns))] == [(0, 1, 7, 0, 111.2), (1, 0, 7, 0, 111.2), (1, 2, 9, 0, 222.39)]
     assert (arrays.texts[0], arrays.unit, arrays.node_lat[:].tolist()) == ("Us", "weight", [0, 0, 20_000])
@@ -138,22 +138,21 @@ def test_dimacs_files_that_are_refused(tmp_path, co, gr, says):
     assert str(refused.value) == f"{tmp_path}/x.{says}"
 
 
-class ServedTests(ServiceCase):
-    def test_a_file_that_changes_while_it_is_served(self):
-        """By a backup or `touch` answers are as they were. A damaged block is refused where a request needs it."""
-        network = self.folder / "v.net"
-        self.serve("--network", self.folder / "v")
-        paths = ("/nearest/v1/car/0.0003,0.00001", "/route/v1/car/0,0;0.008,0?steps=true", "/map/roads/15/16384/16383")
-        before = [self.ask(path) for path in paths]
-        os.utime(network)
-        self.assertEqual([self.ask(path) for path in paths], before)
-        self.assertEqual([status for status, _ in before], [200] * 3)
-        whole = network.read_bytes()
-        place = whole.index(np.asarray(net_file.read(network).step_codes).tobytes())
-        with open(network, "r+b") as file:
-            file.seek(place)
-            file.write(bytes([whole[place] ^ 1]))
-        status, found = self.ask(paths[2])
-        self.assertEqual((status, found["code"], self.ask("/health")[0]), (500, "InternalError", 200))
-        self.wait_for(lambda: any("v.net: is damaged: step_codes has another checksum" in line for line in self.said))
-        self.assertFalse(any("Traceback" in line for line in self.said), self.said)
+def test_a_file_that_changes_while_it_is_served(tmp_path, caplog):
+    """By a backup or `touch` answers are as they were. A damaged block is refused where a request needs it."""
+    run_tool("osm_to_gr", VILLAGE, tmp_path / "v", "--keep-islands")
+    domethyme.prepare(tmp_path / "v.gr", tmp_path / "v.rch", workers=1).close()
+    network, service = tmp_path / "v.net", open_service(tmp_path / "v")
+    paths = ("/nearest/v1/car/0.0003,0.00001", "/route/v1/car/0,0;0.008,0?steps=true", "/map/roads/15/16384/16383")
+    before = [ask(service, path) for path in paths]
+    os.utime(network)
+    assert [ask(service, path) for path in paths] == before and [status for status, _ in before] == [200] * 3
+    whole = network.read_bytes()
+    place = whole.index(np.asarray(net_file.read(network).step_codes).tobytes())
+    with open(network, "r+b") as file:
+        file.seek(place)
+        file.write(bytes([whole[place] ^ 1]))
+    status, found = ask(service, paths[2])
+    assert (status, found["code"], ask(service, "/health")[0]) == (500, "InternalError", 200)
+    (line,) = caplog.messages
+    assert line.startswith(f"{network}: is damaged: step_codes has another checksum")
