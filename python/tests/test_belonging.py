@@ -15,7 +15,6 @@ import unittest.mock
 import numpy as np
 import pytest
 from draws import one_road, run_tool, write_network
-from service_case import ServiceCase
 from tool_case import VILLAGE
 
 import domethyme
@@ -246,23 +245,6 @@ def test_keys_of_another_node(net):
     assert ([*alone.keys], alone.network) == (["x", "y", "c"], None)
 
 
-class ServiceTests(ServiceCase):
-    def test_a_network_that_was_made_again(self):
-        """Refused at a start, and at a reload, by the name of a file that is there."""
-        process = self.serve("--network", self.folder / "v")
-        answer = self.ask("/route/v1/car/0,0;0.008,0")
-        self.run_tool("osm_to_gr", VILLAGE, "v", "--keep-islands", "--profile", "bicycle")
-        says = f"v.rch: {FOREIGN} {self.folder / 'v.net'}: "
-        process.send_signal(1)
-        self.wait_for(lambda: any("reload refused: " in line and says in line for line in self.said))
-        self.assertEqual(self.ask("/route/v1/car/0,0;0.008,0"), answer)
-        for words in ((), ("--compare-all",)):
-            ended = self.run_tool("domethyme-serve", "v.rch", "--network", self.folder / "v", "--port", "0", *words, status=1)
-            self.assertIn(says, ended.stderr)
-        ended = self.run_tool("domethyme-serve", "v.rch", "--network", "nonet", "--port", "0", status=1)
-        self.assertIn("domethyme-serve: nonet.net: No such file or directory", ended.stderr)
-
-
 def test_what_the_service_opens(tmp_path, caplog):
     """With --compare-all all links are compared, and by the package if asked, of what was pickled too. A hierarchy that changes
     meanwhile is refused, and a network with another byte."""
@@ -275,6 +257,10 @@ def test_what_the_service_opens(tmp_path, caplog):
         open_dataset(paths)
         domethyme.Hierarchy(paths.hierarchy, network=paths.network)
         assert [" of its 2 links were compared" in message for message in caplog.messages] == [True, True]
+    other = made(tmp_path, "other", is_prepared=False)
+    for compare_all in (False, True):
+        with pytest.raises(domethyme.WrongHierarchy, match=f"v.rch: {FOREIGN} .*other.net: it has 2 nodes"):
+            open_dataset(paths._replace(network=str(other), compare_all=compare_all))
     with unittest.mock.patch.object(belonging, "compare", lambda *_: os.utime(paths.hierarchy)):
         with pytest.raises(StartupError, match="v.rch: has changed"):
             open_dataset(paths)
