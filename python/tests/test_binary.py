@@ -291,6 +291,7 @@ def test_an_earlier_version(small, tmp_path):
         frames.append(domethyme.Network(tmp_path / "old").arcs_frame().values.tolist())
     assert_same(net_file.read(tmp_path / "old.net"), arrays)
     assert (frames[0], columns["about"][2:5].tolist()) == (frames[1], [0, 3, 3])
+    assert zlib.crc32(small.read_bytes()) == 519660069  # (other bytes are another form, and need another version's number)
 
 
 def test_files_are_closed_once_nobody_has_their_network(small):
