@@ -48,7 +48,6 @@ OLD_NAMES = [
 ]
 # The same of the village's.
 OLD_WORDS = [
-    ("nearest", 'side="to"', lambda each: each.network.nearest(0, 0, True), lambda each: each.network.nearest(0, 0, "to")),
     ("nearest", 'side="to"', lambda each: each.network.nearest(0, 0, end=True), lambda each: each.network.nearest(0, 0, "to")),
     (r"nearest\(.*=\)", r"nearest\(radius=\)", lambda each: each.nearest(0, 0, within=9), lambda each: each.nearest(0, 0, radius=9)),
     (r"within\(.*=\)", r"within\(radius=\)", lambda each: each.within((0, 0), max_metres=9), lambda each: each.within((0, 0), radius=9)),
@@ -72,8 +71,10 @@ def test_arguments_by_old_names(village, old, new, before, now):
         assert [each.filename for each in caught] == [__file__]
         with pytest.raises(ValueError, match="from or to"):
             hierarchy.network.nearest(0, 0, "both")
-        with pytest.warns(DeprecationWarning), pytest.raises(domethyme.NoSuchNode):
-            hierarchy.nearest(0.0001, 0, within=0)
+        near, beside = hierarchy.network.points_on_roads, (0.0005, 0.0001)  # (11 m from the road)
+        for ask, word in ((lambda **far: hierarchy.nearest(*beside, **far), "within"), (hierarchy.within, "max_metres"), (near, "max_metres")):
+            with pytest.warns(DeprecationWarning), pytest.raises(domethyme.NoSuchNode):
+                ask(*[beside] * (word != "within"), **{word: 9})
 
 
 def test_others(hierarchy, tmp_path):
@@ -81,6 +82,10 @@ def test_others(hierarchy, tmp_path):
         hierarchy.matrix(["a"], by="hand")
     line = "--old is now --new; the old word goes with the next version"
     assert current_options(["--old=a=b", "-o", "--", "--old"], {"--old": "--new"}) == (["--new=a=b", "-o", "--", "--old"], [line])
+    (tmp_path / "t.nodes.csv").write_text("node,osm,lon,lat,ends\n1,,0,0,from\n2,,0,0.0001,to\n")
+    nearest = domethyme.Network(tmp_path / "t").nearest
+    with pytest.warns(DeprecationWarning):
+        assert [[nearest(0, 0, end)[0], nearest(0, 0, end=end)[0]] for end in (True, False)] == [[1, 1], [0, 0]]
     for module in (domethyme, domethyme.errors):
         with pytest.raises(AttributeError, match="no_such_name"):
             module.no_such_name

@@ -11,7 +11,7 @@ from draws import assert_refused, run_tool
 from tool_case import TOOLS, VILLAGE
 
 import domethyme
-from domethyme.network import from_tables
+from domethyme.network import from_tables, net_file
 
 NODES = "node,lon,lat\ndepot,0,0\nshop,0.001,0\n"
 ARCS = "from,to,kmh\ndepot,shop,50\nshop,depot,50\n"
@@ -139,17 +139,20 @@ def test_tables_that_a_tool_has_written(folder):
 
 
 def test_own_tables_that_were_edited(folder):
-    """Beside the network that was made of both of them, or of one: a sentence, and no other table is read."""
-    for net, nodes in (("firm", "firm.nodes.csv"), ("edit", "others.csv")):
-        arcs = f"{net}.arcs.csv"
+    """Beside the network that was made of both of them, or of one: a sentence, and no other table is read. Of both the side of the road
+    stays."""
+    for net, nodes, arcs, side in (("firm", "firm.nodes.csv", "firm.arcs.csv", "left"), ("edit", "others.csv", "edit.arcs.csv", "right"),
+                                   ("more", "more.nodes.csv", "others.csv", "right")):
         for name, text in ((nodes, NODES), (arcs, ARCS)):
             (folder / name).write_text(text)
-        run_tool("to_network", nodes, arcs, net)
+        run_tool("to_network", nodes, arcs, net, "--driving-side", "left")
         assert "q 1 2" in run_tool("nearest", net, "trips.csv")[0]
-        (folder / arcs).write_text(ARCS.replace("50", "60"))
-        assert_refused("nearest", net, "trips.csv", says=f"{arcs}: has changed since {net}.net was made of it: run `to_network` again")
-        with pytest.raises(domethyme.NetworkError, match=f"{arcs}: has changed since"):
+        edited = nodes if arcs == "others.csv" else arcs
+        (folder / edited).write_text((folder / edited).read_text() + "\n")
+        says = f"{edited}: has changed since {net}.net was made of it: run `to_network` again"
+        assert_refused("nearest", net, "trips.csv", says=says)
+        with pytest.raises(domethyme.NetworkError, match=says):
             domethyme.Network(net).arcs_frame()
         run_tool("to_network", nodes, arcs, net)
-        assert "q 1 2" in run_tool("nearest", net, "trips.csv")[0]
+        assert ("q 1 2" in run_tool("nearest", net, "trips.csv")[0], net_file.read(f"{net}.net").driving_side) == (True, side)
     assert domethyme.Network("firm").arcs_frame()["from"].tolist() == [0, 1]
