@@ -19,12 +19,12 @@ from domethyme.network.snapping import RoadIndex
 from domethyme_service.tiles import Tiles
 
 # Two nodes, a road both ways and one that is straight on.
-NODES = "node,osm,lon,lat,ends\n1,7,0,0,\n2,,0.001,0,\n3,9,0.001,0.001,\n"
+NODES = "node,osm,lon,lat,ends\n1,7,-0.0003,0,\n2,,0.001,0,\n3,9,0.001,0.0011,\n"
 ARCS = """\
 from,to,weight,seconds,metres,osm,highway,name,WKT
-1,2,10,1,111.2,5,primary,High Street,"LINESTRING (0 0, 0.001 0)"
-2,1,10,1,111.2,5,primary,High Street,"LINESTRING (0.001 0, 0 0)"
-2,3,9,1,111.2,6,residential,,"LINESTRING (0.001 0, 0.001 0.001)"
+1,2,10,1,111.2,5,primary,High Street,"LINESTRING (-0.0003 0, 0.001 0)"
+2,1,10,1,111.2,5,primary,High Street,"LINESTRING (0.001 0, -0.0003 0)"
+2,3,9,1,111.2,6,residential,,"LINESTRING (0.001 0, 0.001 0.0011)"
 """
 
 
@@ -291,7 +291,7 @@ def test_an_earlier_version(small, tmp_path):
         frames.append(domethyme.Network(tmp_path / "old").arcs_frame().values.tolist())
     assert_same(net_file.read(tmp_path / "old.net"), arrays)
     assert (frames[0], columns["about"][2:5].tolist()) == (frames[1], [0, 3, 3])
-    assert zlib.crc32(small.read_bytes()) == 519660069  # (other bytes are another form, and need another version's number)
+    assert zlib.crc32(small.read_bytes()) == 3362017521  # (other bytes are another form, and need another version's number)
 
 
 def test_files_are_closed_once_nobody_has_their_network(small):

@@ -1,4 +1,6 @@
 """Old words of public names still work for one version, and a warning, or a line of a tool, says what they are now."""
+import contextlib
+
 import pandas
 import pytest
 from draws import run_tool
@@ -46,15 +48,6 @@ OLD_NAMES = [
        lambda hierarchy, by=by: [hierarchy.matrix(["a"], ["c"], *more).loc["a", "c"] for more in ([by], [])] == [7, 7])
       for by in ("library", "sweeps")),
 ]
-# The same of the village's.
-OLD_WORDS = [
-    ("nearest", 'side="to"', lambda each: each.network.nearest(0, 0, end=True), lambda each: each.network.nearest(0, 0, "to")),
-    (r"nearest\(.*=\)", r"nearest\(radius=\)", lambda each: each.nearest(0, 0, within=9), lambda each: each.nearest(0, 0, radius=9)),
-    (r"within\(.*=\)", r"within\(radius=\)", lambda each: each.within((0, 0), max_metres=9), lambda each: each.within((0, 0), radius=9)),
-    (r"points_on_roads\(.*=\)", r"points_on_roads\(radius=\)", lambda each: each.network.points_on_roads((0, 0), max_metres=9),
-     lambda each: each.network.points_on_roads((0, 0), 9)),
-]
-
 
 @pytest.mark.parametrize("old, new, holds", OLD_NAMES, ids=[old for old, *_ in OLD_NAMES])
 def test_methods_by_old_names(hierarchy, old, new, holds):
@@ -63,18 +56,17 @@ def test_methods_by_old_names(hierarchy, old, new, holds):
     assert [each.filename for each in caught] == [__file__]
 
 
-@pytest.mark.parametrize("old, new, before, now", OLD_WORDS)
-def test_arguments_by_old_names(village, old, new, before, now):
+@pytest.mark.parametrize("name, old", [("nearest", "within"), ("within", "max_metres"), ("points_on_roads", "max_metres")])
+def test_radiuses_by_old_names(village, name, old):
+    """Of a place 11 m from a road, and 57 m from a node."""
     with domethyme.Hierarchy(village[0] / "v.rch", network=village[0] / "v") as hierarchy:
-        with pytest.warns(DeprecationWarning, match=f"{old}.*{new}") as caught:
-            assert before(hierarchy) == now(hierarchy)
-        assert [each.filename for each in caught] == [__file__]
-        with pytest.raises(ValueError, match="from or to"):
-            hierarchy.network.nearest(0, 0, "both")
-        near, beside = hierarchy.network.points_on_roads, (0.0005, 0.0001)  # (11 m from the road)
-        for ask, word in ((lambda **far: hierarchy.nearest(*beside, **far), "within"), (hierarchy.within, "max_metres"), (near, "max_metres")):
-            with pytest.warns(DeprecationWarning), pytest.raises(domethyme.NoSuchNode):
-                ask(*[beside] * (word != "within"), **{word: 9})
+        ask, place = getattr(hierarchy.network if name == "points_on_roads" else hierarchy, name), (0.0005, 0.0001)
+        where = place if name == "nearest" else [place]
+        for radius, refused in ((9, pytest.raises(domethyme.NoSuchNode)), (60, contextlib.nullcontext())):
+            with pytest.warns(DeprecationWarning, match=rf"{name}\({old}=\) is now {name}\(radius=\)") as caught, refused:
+                found = ask(*where, **{old: radius})
+            assert [each.filename for each in caught] == [__file__]
+        assert found == ask(*where, radius=60)
 
 
 def test_others(hierarchy, tmp_path):
@@ -84,8 +76,11 @@ def test_others(hierarchy, tmp_path):
     assert current_options(["--old=a=b", "-o", "--", "--old"], {"--old": "--new"}) == (["--new=a=b", "-o", "--", "--old"], [line])
     (tmp_path / "t.nodes.csv").write_text("node,osm,lon,lat,ends\n1,,0,0,from\n2,,0,0.0001,to\n")
     nearest = domethyme.Network(tmp_path / "t").nearest
-    with pytest.warns(DeprecationWarning):
+    with pytest.warns(DeprecationWarning, match='nearest.*side="to"') as caught:
         assert [[nearest(0, 0, end)[0], nearest(0, 0, end=end)[0]] for end in (True, False)] == [[1, 1], [0, 0]]
+    assert {each.filename for each in caught} == {__file__}
+    with pytest.raises(ValueError, match="from or to"):
+        nearest(0, 0, "both")
     for module in (domethyme, domethyme.errors):
         with pytest.raises(AttributeError, match="no_such_name"):
             module.no_such_name

@@ -56,7 +56,7 @@ TWICE = [
     "nearest net trips.csv -o out --snapped ./out", "nearest net trips.csv --snapped -", "reweigh net places.csv out --unmatched out.gr",
     "reweigh net places.csv out --unmatched ./out.net", "table net net.rch places.csv trips.csv -o out --metres out",
     "table net net.rch places.csv trips.csv --metres -", "table net net.rch places.csv trips.csv -o /dev/stdout --metres -",
-    "table net net.rch places.csv trips.csv -o - --metres /dev/fd/1", "table net net.rch a.csv b.csv -o /dev/fd/1 --metres /dev/stdout"
+    "table net net.rch a.csv b.csv -o - --metres /dev/fd/1", "table net net.rch a.csv b.csv -o /dev/fd/1 --metres /dev/stdout"
 ]
 
 
@@ -129,7 +129,7 @@ def test_tables_that_a_tool_has_written(folder):
     assert "osm_to_gr: removed v.nodes.csv, v.arcs.csv, v.nodes.csvt, v.nodes.prj, v.arcs.csvt, which were of" in said
     assert sorted(path.suffix for path in folder.glob("v.*")) == [".gr", ".net", ".prj"]
     for words in calls:
-        assert_refused(*words, "v", "--tables", says="v.arcs.prj: is there, and no tool has written it: move it, or choose another OUT")
+        assert_refused(*words, "v", "--tables", says="v.arcs.prj: is there, and no tool has written it: move it, or choose")
     own.unlink()
     run_tool("osm_to_gr", VILLAGE, "v", "--tables")
     with open("v.arcs.csv", "a", encoding="utf-8") as file:
@@ -139,10 +139,9 @@ def test_tables_that_a_tool_has_written(folder):
 
 
 def test_own_tables_that_were_edited(folder):
-    """Beside the network that was made of both of them, or of one: a sentence, and no other table is read. Of both the side of the road
-    stays."""
-    for net, nodes, arcs, side in (("firm", "firm.nodes.csv", "firm.arcs.csv", "left"), ("edit", "others.csv", "edit.arcs.csv", "right"),
-                                   ("more", "more.nodes.csv", "others.csv", "right")):
+    """Beside the network that was made of both, whose side of the road stays, or of one: a sentence, and no other table is read."""
+    tables = ("firm.nodes.csv", "firm.arcs.csv"), ("others.csv", "edit.arcs.csv"), ("more.nodes.csv", "others.csv")
+    for net, (nodes, arcs) in zip(("firm", "edit", "more"), tables):
         for name, text in ((nodes, NODES), (arcs, ARCS)):
             (folder / name).write_text(text)
         run_tool("to_network", nodes, arcs, net, "--driving-side", "left")
@@ -154,5 +153,6 @@ def test_own_tables_that_were_edited(folder):
         with pytest.raises(domethyme.NetworkError, match=says):
             domethyme.Network(net).arcs_frame()
         run_tool("to_network", nodes, arcs, net)
-        assert ("q 1 2" in run_tool("nearest", net, "trips.csv")[0], net_file.read(f"{net}.net").driving_side) == (True, side)
+        assert "q 1 2" in run_tool("nearest", net, "trips.csv")[0]
+        assert net_file.read(f"{net}.net").driving_side == ("left" if net == "firm" else "right")
     assert domethyme.Network("firm").arcs_frame()["from"].tolist() == [0, 1]
