@@ -315,6 +315,10 @@ def test_own_tables(data: Any) -> None:
     lines = [[points[int(row["from"]) - 1], *some, points[int(row["to"]) - 1]] for row, some in zip(rows, inner)]
     for row, some, line in zip(rows, inner, lines):
         row |= {"WKT": wkt(line).replace(*data.draw(st.sampled_from(forms))) if some else ""} if any(inner) else {}
+        straight = along([line[0], line[-1]])[-1]
+        if row.get("metres") and straight and data.draw(st.booleans()):  # (what is doubted, or nearly)
+            factor, more = data.draw(st.sampled_from([0.99, 100])), data.draw(st.sampled_from([-1.1, -0.9, 0.1]))
+            row["metres"] = f"{max(0.0, factor * straight + more):.2f}"
     made, expected = [*zip(rows, lines)], []
     made += data.draw(st.lists(st.sampled_from(made), max_size=2))
     for number, (row, line) in enumerate(made, 2):

@@ -263,6 +263,8 @@ def test_closed() -> None:
     assert said[-1] == "reweigh: again: 0 arcs changed, 0 closed, and 0 cut off by these" and arcs_of("again") == arcs
     reweighed("12,0\n")  # (then the toll road is the only one to the rest)
     assert {*domethyme.Network("new", exclude=["toll"]).arcs_frame()["osm"]} == {11}
+    pathlib.Path("speeds.csv").write_text("13,0\n")  # (and what was closed before is no way round it)
+    assert run_tool("reweigh", "new", "speeds.csv", "again")[1].endswith(" 0 arcs changed, 2 closed, and 2 cut off by these\n")
     heavy = "would have an arc that weighs more than 4294967295"
     for kmh, says in ((0, "would have no arc that is open"), (0.00001, heavy), (1e-14, heavy), (1e-320, heavy)):
         with pytest.raises(domethyme.NetworkError, match=f"map.net: {says}"):
