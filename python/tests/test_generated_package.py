@@ -294,9 +294,9 @@ def check_nearest(hierarchy: domethyme.Hierarchy, network: Network, place: Point
 
 def check_roads(hierarchy: domethyme.Hierarchy, roads: Network, where: list[Point], unit: str, factor: int, towards: bool) -> None:
     """The lines that are reached from places, or lead there, by their points; where they cross the 180th meridian by their metres."""
-    radius, colors = 30.5 if towards else 1000.0, ["ffff00", "00ff00"]
+    radius, colors = 30.5 if towards else 1000.0, ["ffff00", "00ff00", "0000ff"]
     points = [point for place in where if (point := roads.snap(place, radius))]
-    values, metric = {"minutes": ([0.1, 0.3], "time"), "metres": ([70, 250], "distance")}[unit]
+    values, metric = {"minutes": ([0.1, 0.3, 600], "time"), "metres": ([70, 250, 4e16], "distance")}[unit]
     place: Any = where if len(where) > 1 else where[0]
     words: Any = {"shape": "roads", "towards": towards, "radius": radius, "colors": colors}
     if len(points) < len(where):

@@ -15,7 +15,6 @@ import numpy as np
 from numpy.typing import NDArray
 from scipy.ndimage import maximum_filter
 
-from ..protocol import FAR
 from .columns import UNITS
 from .from_tables import FARTHEST_END
 from .geo import EARTH_RADIUS, Point, split_at_antimeridian
@@ -442,12 +441,11 @@ class Reach:
         _, places = concat_ranges(begins, counts)
         arcs = network.edge_arcs[places]
         lengths = self._lengths[(network.arc_to if self.towards else network.arc_from)[arcs]]
-        lengths[lengths < 0] = FAR
         weights, is_first = network.arc_weight[arcs], network.arc_along[arcs] != self.towards
         groups = (counts.cumsum() - counts)[counts > 0]
         found = np.full((2, len(limits), len(edges)), -1.0)
         for row, limit in enumerate(limits if len(groups) else ()):
-            left = limit - lengths
+            left = np.where(lengths < 0, -1, limit - lengths)
             share = np.where(left >= weights, 1.0, -1.0)
             some = np.flatnonzero((left >= 0) & (left < weights))
             share[some] = left[some] / weights[some]
