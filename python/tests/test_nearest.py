@@ -82,7 +82,9 @@ def test_standard_input_a_file_and_coordinates_as_network(write):
     write("street.co", STREET_CO)
     assert run_tool("nearest", "street.co", "trips.csv")[0] == PAIRS.replace("street", "street.co")
     assert_refused("nearest", "street.co", "trips.csv", "--on-roads", says="street.co: has no roads but nodes")
-    assert "q 1 4\n" in run_tool("nearest", "street", "-", "--radius", "0", given=f"{HEAD}\n0,0,0.002,0.001\n")[0]
+    write("ends.nodes.csv", "node,osm,lon,lat\n1,,180,0\n2,,-45.1,90\n")
+    for network, trip, pair in (("street", "0,0,0.002,0.001", "1 4"), ("ends", "-180,0,77.7,90", "1 2")):  # (of one place by two names)
+        assert f"q {pair}\n" in run_tool("nearest", network, "-", "--radius", "0", given=f"{HEAD}\n{trip}\n")[0]
 
 
 def test_matrix(write):

@@ -44,7 +44,7 @@ class NodeIndex:
         nodes, found = self._arrays.node_grid.nearest_batch(lon, lat, away)
         if (nodes < 0).any():
             raise NetworkError("has no nodes", self._arrays.path)
-        return nodes, found
+        return nodes, found.round(6)
 
     def split_nodes(self, node: int) -> tuple[int, ...]:
         """The nodes that turn restrictions made of the junction of a node: it alone where they made none."""
