@@ -4,9 +4,10 @@ import math
 from collections.abc import Callable, Iterable, Sequence
 from typing import Any, NamedTuple
 
+import numpy as np
 from model.network import Network, SnappedPoint
-from model.reach import is_within, reached
-from model.sphere import EARTH_RADIUS, Point, nearest_on_segment, point_at
+from model.reach import places_within, reached, reached_lines
+from model.sphere import Point
 
 Points = Sequence[Point]
 TOLERANCES = {"polyline": 6.5e-6, "polyline6": 8.5e-7, "geojson": 8.5e-7}
@@ -212,44 +213,27 @@ def rings_of(geometry: Any) -> list[list[Point]]:
     return [[(lon, lat) for lon, lat in ring] for ring in rings]
 
 
-def is_inside(rings: Sequence[Points], place: Point) -> bool:
-    """Whether a place is in an odd number of rings."""
-    steps = (step for ring in rings for step in itertools.pairwise(ring) if (step[0][1] > place[1]) != (step[1][1] > place[1]))
-    return sum(place[0] < x + (place[1] - y) / (other_y - y) * (other_x - x) for (x, y), (other_x, other_y) in steps) % 2 == 1
-
-
-def metres_to_line(rings: Sequence[Points], place: Point) -> float:
-    """The metres from a place to the nearest ring."""
-    return min((nearest_on_segment(place, *ends)[0] for ring in rings for ends in itertools.pairwise(ring)), default=1e9)
-
-
 class Contour(NamedTuple):
-    """The contour of what is reached within a limit, of these kinds. Unless it was simplified it has the nodes that are within the
-    limit, and of other places those whose nearest road is reached, all but for those near its line."""
+    """The contour of what is reached within a limit, of these kinds, simplified by some metres; and the lesser limit before it,
+    -1 for none. Unless parts of it are dropped it has the places that belong to it."""
 
     network: Network
     points: Sequence[SnappedPoint]
     limit: int
+    lesser: int
     kinds: Sequence[str]
+    metres: float
     is_whole: bool
 
     def differs(self, found: Any) -> bool:
         shares = reached(self.network, self.points, self.limit)
-        if found is None or found["type"] not in self.kinds or not self.is_whole:
-            return any(shares.values()) if found is None else found["type"] not in self.kinds
-        rings = rings_of(found)
-        sides = [max(axis) - min(axis) for axis in zip(*(point for ring in rings for point in ring))]
-        step = max(sides) * math.radians(EARTH_RADIUS) / 100 + 1
-        for place in [*self.probes(), *(node.place for node in self.network.nodes)]:
-            expected = is_within(self.network, shares, place, step)
-            if expected not in (None, is_inside(rings, place)) and metres_to_line(rings, place) > step:
-                return True
-        return False
-
-    def probes(self) -> list[Point]:
-        """Places on the roads of a network, and over its box and some way around it."""
-        on_roads = [point_at(edge.line, share / 8) for edge in self.network.edges for share in (1, 4, 7)]
-        lons, lats = zip(*(point for edge in self.network.edges for point in edge.line))
-        wide, high = max(lons) - min(lons) + 0.008, max(lats) - min(lats) + 0.008
-        west, south, steps = min(lons) - 0.004, min(lats) - 0.004, range(1, 30, 3)
-        return on_roads + [(west + wide * (5 * step % 13) / 13, south + high * step / 30) for step in steps]
+        is_any = any(shares.values())  # (else it may be the square of a node)
+        if found is None or found["type"] not in self.kinds or not self.is_whole or not is_any:
+            return is_any if found is None else found["type"] not in self.kinds
+        lesser = reached_lines(self.network, self.points, self.lesser)
+        places, are_within = places_within(self.network, shares, lesser, self.metres)
+        steps = np.concatenate([np.hstack((ring[:-1], ring[1:])) for ring in map(np.array, rings_of(found))])
+        x, y, other_x, other_y = steps.T[..., None]
+        is_beside = (y > places[:, 1]) != (other_y > places[:, 1])
+        is_west = places[:, 0] < x + (places[:, 1] - y) / np.where(y == other_y, 1, other_y - y) * (other_x - x)
+        return bool(((is_beside & is_west).sum(axis=0) % 2 != are_within).any())

@@ -1,14 +1,22 @@
 """What is reached from places on roads: up to which share of each edge, and which places contours have."""
 import itertools
+import math
 from collections.abc import Sequence
+from typing import Any
+
+import numpy as np
+from scipy.spatial import KDTree
 
 from .network import Network, SnappedPoint
-from .sphere import Point, clip, metres_between, nearest_on_segment
+from .sphere import EARTH_RADIUS, Point, clip
 
 # Shares of an edge between which it is reached.
 Shares = list[tuple[float, float]]
-# Metres to the nearest road up to which a point belongs to a contour, by the contour's size between these.
-ALLOWANCE = 100.0, 200.0
+# Of contours: up to which share of the extent, and between which metres, or up to two steps, a place is near a road; the points of
+# a grid, and the steps along the lesser side of the extent.
+SHARE, LEAST, MOST, POINTS, STEPS = 1 / 8, 100.0, 200.0, 2_700_000, 205
+# Places are compared if something else is so many steps farther away; so many along each side.
+SLACK, PROBES = 4, 40
 
 
 def reached(network: Network, points: Sequence[SnappedPoint], limit: int) -> dict[int, Shares]:
@@ -41,21 +49,51 @@ def reached_lines(network: Network, points: Sequence[SnappedPoint], limit: int) 
     return [clip(network.edges[edge].line, *each) for edge, shares in reached(network, points, limit).items() for each in shares]
 
 
-def is_within(network: Network, shares: dict[int, Shares], place: Point, slack: float) -> bool | None:
-    """Whether a place belongs to a contour: the nearest road is reached there, and near enough. None where the nearest road, or
-    how far it is, is another within so many metres."""
+def places_within(network: Network, shares: dict[int, Shares], lesser: Sequence[list[Point]], metres: float) -> tuple[Any, Any]:
+    """Places over what is reached and some way around it, nodes among them, and whether each belongs to the contour: the nearest
+    road is reached there, and near enough. There are none about which steps of a grid decide, or roads beyond the grid, nor those
+    around the lines of a lesser contour, which has a grid of its own; `metres` are those by which the contour is simplified."""
+    lines = [clip(network.edges[edge].line, *each) for edge, some in shares.items() for each in some]
+    lats = [lat for line in lines for _, lat in line]
+    lon, scale = lines[0][0][0], math.radians(EARTH_RADIUS) * np.array([math.cos(math.radians((min(lats) + max(lats)) / 2)), 1.0])
+
+    def in_plane(points: Any) -> Any:
+        found = np.array(points)
+        found[:, 0] = (found[:, 0] - lon + 180) % 360 - 180
+        return found * scale
+
+    low, high = box = np.array([choose(in_plane([*itertools.chain(*lines)]), axis=0) for choose in (np.min, np.max)])
+    sides = high - low
+    step, beside = max(0.5, 2.0 ** math.floor(math.log2(max(min(sides) / STEPS, 0.5)))), min(max(SHARE * max(sides), LEAST), MOST)
+    while 4 * np.prod(sides + 2 * beside) > POINTS * step**2:
+        step *= 2
+    far, slack = max(beside, 2 * step), SLACK * step + 2 * metres + 1
     on_roads = {node for arc in network.arcs for node in arc[:2]}
-    alone = [each.place for node, each in enumerate(network.nodes) if node not in on_roads and each.ends != "no"]
-    near = [(metres_between(place, each), False) for each in alone]  # (a node without roads isn't reached)
+    alone = [node.place for number, node in enumerate(network.nodes) if number not in on_roads and node.ends != "no"]
+    others, reached = [in_plane(np.array(alone).reshape(-1, 2))], list[Any]()  # (a node without roads isn't reached)
     for number, edge in enumerate(network.edges):
-        before = network.along[number]
-        parts = [(low * (before[-1] or 1.0), high * (before[-1] or 1.0)) for low, high in shares.get(number, [])]
-        for ends, begin, end in zip(itertools.pairwise(edge.line), before, before[1:]):
-            metres, share = nearest_on_segment(place, *ends)
-            at = begin + share * (end - begin)
-            near += ((metres, any(low - wide <= at <= high + wide for low, high in parts)) for wide in (slack, -slack))
-    least = min(near)[0]
-    found = {is_so for metres, is_so in near if metres <= least + slack}
-    if len(found) > 1 or ALLOWANCE[0] - slack < least < ALLOWANCE[1] + slack:
-        return None
-    return found.pop() and least < ALLOWANCE[0]
+        along = np.array(network.along[number])
+        at = np.union1d(along, np.arange(0, along[-1], step))
+        points = np.column_stack([np.interp(at, along, axis) for axis in in_plane(edge.line).T])
+        is_reached = np.zeros(len(at), bool)
+        for begin, end in shares.get(number, []):
+            is_reached |= (begin * along[-1] <= at) & (at <= end * along[-1])
+        reached.append(points[is_reached])
+        others.append(points[~is_reached])
+    axes = [np.linspace(*ends, PROBES) for ends in zip(low - 1.5 * far, high + 1.5 * far)]
+    nodes = in_plane([node.place for node in network.nodes])
+    places = np.concatenate((np.stack(np.meshgrid(*axes), axis=-1).reshape(-1, 2), nodes))
+    if lesser:
+        inner = in_plane([*itertools.chain(*lesser)])
+        places = places[~is_in(places, (inner.min(axis=0), inner.max(axis=0)), far + slack)]
+    other = np.concatenate(others)
+    every = np.concatenate(reached), other, other[is_in(other, box, far)]
+    near, *away = (KDTree(some).query(places)[0] if len(some) else math.inf for some in every)
+    lows, highs = (np.minimum(far, each) for each in away)
+    is_clear = (near < lows - slack) | (near > highs + slack)
+    return (places / scale + (lon, 0))[is_clear], (near < highs)[is_clear]
+
+
+def is_in(points: Any, box: Any, metres: float) -> Any:
+    """Whether points of a plane are in a box, or so many metres beside it."""
+    return ((box[0] - metres <= points) & (points <= box[1] + metres)).all(axis=1)
