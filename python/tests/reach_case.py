@@ -73,15 +73,10 @@ def lengths(net, starts, towards=False):
 
 
 def town_map():
-    """A town of 24 by 24 streets, some of one way, around a lake. In the lake is an island of four nodes, to which a bridge leads
-    one way. A road of two nodes is joined to nothing. Weights are milliseconds, by 30 km/h. Returns the nodes and the roads, and
-    the numbers of the nodes of the island and of the road apart."""
+    """The nodes and the roads of a town of 24 by 24 streets, some of one way, around a lake. In the lake is an island of four nodes, to
+    which a bridge leads one way. Weights are milliseconds, by 30 km/h."""
     draw = np.random.default_rng(5)
     places, number, roads = [], {}, []
-
-    def put(x, y):
-        places.append((x, y))
-        return len(places) - 1
 
     def join(start, end, is_one_way=False):
         weight = round(math.dist(places[start], places[end]) / 30 * 3600)
@@ -90,16 +85,16 @@ def town_map():
     for row, column in itertools.product(range(24), repeat=2):
         x, y = np.array((column, row)) * 90.0 + draw.uniform(-20, 20, 2)
         if ((x - 1400) / 350) ** 2 + ((y - 1100) / 260) ** 2 > 1:
-            number[column, row] = put(x, y)
+            number[column, row] = len(places)
+            places.append((x, y))
     for (column, row), node in number.items():
         for other in ((column + 1, row), (column, row + 1)):
             if other in number and draw.integers(0, 9):
                 join(node, number[other], not draw.integers(0, 15))
-    island = [put(1400 + x, 1100 + y) for x, y in ((-60, -60), (60, -60), (60, 60), (-60, 60))]
+    island = [*range(len(places), len(places) + 4)]
+    places += [(1340, 1040), (1460, 1040), (1460, 1160), (1340, 1160)]
     for start, end in zip(island, island[1:] + island[:1]):
         join(start, end)
     join(min(number.values(), key=lambda node: math.dist(places[node], places[island[0]])), island[0], True)
-    apart = [put(405.0, 387.0), put(405.0, 423.0)]
-    join(*apart)
     east = MILLI * 1000 * math.cos(math.radians(47))
-    return [(round(9 + x / east, 7), round(47 + y / MILLI / 1000, 7)) for x, y in places], roads, (island, apart)
+    return [(round(9 + x / east, 7), round(47 + y / MILLI / 1000, 7)) for x, y in places], roads

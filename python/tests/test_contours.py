@@ -24,9 +24,7 @@ from domethyme.network.reach import DECIMALS, METRES_OF_DEGREE, Reach, Zone
 
 @pytest.fixture(scope="module")
 def made_town():
-    """The network of the town, and the nodes of its island and of the road apart."""
-    nodes, roads, names = town_map()
-    return network(nodes, roads), names
+    return network(*town_map())
 
 
 @pytest.fixture(scope="module")
@@ -77,18 +75,6 @@ def test_no_node_of_a_network_is_on_the_wrong_side(made_roads, start, minutes, t
         assert misplaced(made_roads, found, reach, limit, contour) == []
         assert 0 < np.count_nonzero((found >= 0) & (found <= reach.limits[limit])) < len(found)
     check_grids(reach, drawn)
-
-
-def test_island_lake_and_bridge(made_town):
-    """The bridge to the island leads one way. What is joined to nothing is never inside, nor is the water of the lake."""
-    net, (island, apart) = made_town
-    there = [(net.node_lon[node] / UNITS, net.node_lat[node] / UNITS) for node in (*island, *apart)]
-    for towards, is_island in ((False, True), (True, False)):
-        (contour,) = contours(Reach(net, lengths(net, {300: 0}, towards), [3_000_000], towards=towards))
-        area = MultiPolygon(contour.polygons)
-        assert [area.contains(Point(point)) for point in there] == [is_island] * 4 + [False] * 2
-    middle = np.mean(there[:4], axis=0)
-    assert not area.contains(Point(middle[0] - 180 / MILLI / 1000, middle[1]))
 
 
 def test_limits_that_differ_much(made_roads):
@@ -190,7 +176,7 @@ def test_outlines(share):
 @pytest.fixture(scope="module")
 def drawn_town(made_town):
     """What is reached of the town within four limits, and its contours."""
-    reach = Reach(made_town[0], lengths(made_town[0], {430: 0}), [60_000, 90_000, 120_000, 150_000])
+    reach = Reach(made_town, lengths(made_town, {430: 0}), [60_000, 90_000, 120_000, 150_000])
     return reach, [contour.polygons for contour in contours(reach)]
 
 
@@ -250,8 +236,7 @@ def test_denoise(lesser, greater, share, inner, outer):
 
 def test_features(made_town):
     """Rings are as RFC 7946 has them, with six decimals; lines are the rings; and what is denoised is the largest part."""
-    net, _ = made_town
-    reach = Reach(net, lengths(net, {300: 0}), isochrones.limits(net.unit, [0.5, 1, 1.5]))
+    reach = Reach(made_town, lengths(made_town, {300: 0}), isochrones.limits(made_town.unit, [0.5, 1, 1.5]))
     for words in ({}, {"denoise": 1}, {"generalize": 40, "denoise": 0.5}):
         found, lines = (features(reach, [0.5, 1, 1.5], "time", Style(form, **words)) for form in ("polygons", "lines"))
         geometries = [[each["geometry"] for each in some["features"]] for some in (found, lines)]
@@ -265,8 +250,7 @@ def test_features(made_town):
 
 
 def test_nothing_is_reached(made_town):
-    net, _ = made_town
-    reach = Reach(net, np.where(np.arange(len(net.node_lon)) == 7, 5000, -1), [*range(1, 126), 4999, 10_000])
+    reach = Reach(made_town, np.where(np.arange(len(made_town.node_lon)) == 7, 5000, -1), [*range(1, 126), 4999, 10_000])
     for form in ("polygons", "lines", "roads"):
         greater, *others = features(reach, range(127), "time", Style(form, generalize=5, denoise=0.5))["features"]
         assert {each["geometry"] for each in others} == {None} and greater["geometry"] is not None

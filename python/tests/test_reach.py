@@ -1,29 +1,24 @@
 """Tests of which roads are reached, and of what Hierarchy.reach and within refuse. A thousandth of a degree is 111.195 m along the
 equator, and weighs 1000 there."""
-import itertools
 import os
 import pickle
 import shutil
 
 import numpy as np
 import pytest
-from draws import drawn, run_tool
-from hypothesis import given
-from hypothesis import strategies as st
-from reach_case import Road, lengths, network, prepared, town_map
-from shapely.geometry import Point, shape
+from draws import run_tool
+from reach_case import Road, lengths, network, prepared
+from shapely.geometry import Point
 
 import domethyme
 from domethyme import library
 from domethyme.network import isochrones, net_file
 from domethyme.network.contours import contours
-from domethyme.network.isochrones import features
 from domethyme.network.reach import Reach
 from domethyme.network.snapping import RoadIndex
 
 # A road of two directions, one to the east alone, and roads without weight; a node apart.
 ROW = [(0, 0), (0.001, 0), (0.002, 0), (0.003, 0), (0.004, 0), (0, 0.01)]
-UNITS = ["duration", "distance", "weight"]
 ROADS = [Road(0, 1, 1000, 1000), Road(1, 2, 1000, None), Road(2, 3, 0, 0), Road(3, 4, 60_000, 0)]
 
 
@@ -73,15 +68,12 @@ def test_what_does_not_fit(values, limits):
         Reach(network(ROW, ROADS), values, limits)
 
 
-@drawn(200)
-@given(st.sampled_from(UNITS[:2]), st.sampled_from(UNITS), st.decimals("0.01", 600, places=2))
-def test_limits_in_the_unit_of_weights(asked, unit, value):
-    name, factor, metric = {"duration": ("minutes", 60_000, "time"), "distance": ("metres", 100, "distance")}[asked]
-    if unit == asked:
-        assert isochrones.limits(unit, **{name: [float(value)]}) == [int(value * factor)]
-        return
-    with pytest.raises(ValueError, match=f"aren't a {metric}: they are {unit}s"):
-        isochrones.limits(unit, **{name: [float(value)]})
+def test_limits_in_the_unit_of_weights():
+    """They are rounded: as floats these are a little less than integers."""
+    assert isochrones.limits("duration", [2.01]) == [120_600] and isochrones.limits("distance", metres=[0.29]) == [29]
+    for unit, name, metric in (("weight", "minutes", "time"), ("distance", "minutes", "time"), ("weight", "metres", "distance")):
+        with pytest.raises(ValueError, match=f"aren't a {metric}: they are {unit}s"):
+            isochrones.limits(unit, **{name: [5]})
 
 
 @pytest.mark.parametrize("starts, limit, says", [
@@ -126,25 +118,6 @@ def test_an_older_library(row, monkeypatch):
     monkeypatch.setitem(library.LATER_ARGUMENTS, "reached_by_nobody", [])
     with pytest.raises(domethyme.LibraryNotFound, match="older than this package, and has no domethyme_reached_by_nobody"):
         library.load_later_call("reached_by_nobody")
-
-
-@pytest.fixture(scope="module")
-def made_town(tmp_path_factory):
-    with prepared(*town_map()[:2], tmp_path_factory.mktemp("town") / "town") as hierarchy:
-        yield hierarchy
-
-
-@pytest.mark.parametrize("form, towards", itertools.product(["polygons", "lines", "roads"], [False, True]))
-def test_within(made_town, form, towards):
-    """What features makes of the model's lengths, and each contour within the next."""
-    at, net = (float(made_town.network.lon[300]), float(made_town.network.lat[300])), made_town.network.roads.arrays
-    found = made_town.within(at, [0.5, 1, 1.5], shape=form, towards=towards)
-    reach = Reach(net, lengths(net, {300: 0}, towards), [30_000, 60_000, 90_000], towards=towards)
-    assert found == features(reach, [0.5, 1, 1.5], "time", isochrones.Style(form, attribution="© the town"))
-    large, middle, small = shapes = [shape(each["geometry"]) for each in found["features"]]
-    assert {each.geom_type.removeprefix("Multi") for each in shapes} == {"Polygon" if form == "polygons" else "LineString"}
-    if form == "polygons":
-        assert large.is_valid and large.covers(middle) and middle.covers(small) and small.contains(Point(at))
 
 
 @pytest.mark.parametrize("words, says", [

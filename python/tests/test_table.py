@@ -88,8 +88,7 @@ def test_input_that_is_refused(write, files):
 def town(write):
     """The hierarchy of a town, which is a file too."""
     write("places.csv", PLACES)
-    nodes, roads, _ = town_map()
-    with prepared(nodes, roads, pathlib.Path("town").resolve()) as hierarchy:
+    with prepared(*town_map(), pathlib.Path("town").resolve()) as hierarchy:
         yield hierarchy
 
 
