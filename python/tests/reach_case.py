@@ -73,8 +73,8 @@ def lengths(net, starts, towards=False):
 
 
 def town_map():
-    """The nodes and the roads of a town of 24 by 24 streets, some of one way, around a lake. In the lake is an island of four nodes, to
-    which a bridge leads one way. Weights are milliseconds, by 30 km/h."""
+    """The nodes and the roads of a town of 24 by 24 streets, some of one way, around a lake. In the lake is an island of four
+    nodes, to which a bridge leads one way. Weights are milliseconds, by 30 km/h."""
     draw = np.random.default_rng(5)
     places, number, roads = [], {}, []
 
