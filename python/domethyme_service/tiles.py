@@ -102,7 +102,7 @@ class Tiles:
         if zoom < MIN_NAME_ZOOM:
             once = unique_segments(begins, ends)
             begins, ends, kept = begins[once], ends[once], kept[once]
-        # (the name of an edge is that of one of its arcs)
+        # (the name of an edge is that of its first arc)
         names = self.arrays.arc_texts(self.arrays.first_arcs(edges[kept]), NAME_COLUMN)
         is_new = np.ones(len(kept), dtype=bool)
         is_new[1:] = (begins[1:] != ends[:-1]).any(axis=1) | (names[1:] != names[:-1])

@@ -177,13 +177,13 @@ def segment_middles(points: Any, steps: NDArray[Any]) -> Floats:
 def build_zoom_levels(
     arrays: "Arrays", steps: NDArray[np.int32], edges: NDArray[np.int32]
 ) -> tuple[tuple[NDArray[Any], ...], list[int]]:
-    """What `sort_by_cell` returns of all steps; an edge's class is that of one of its arcs."""
+    """What `sort_by_cell` returns of all steps; an edge's class is that of its first arc, as its name."""
     highways, which = np.unique(arrays.row_texts[:, 0], return_inverse=True)
     begins = arrays.text_begin
     texts = [arrays.text_bytes[begins[each] : begins[each + 1]].tobytes().decode() for each in highways.tolist()]
     kinds = np.array([road_class(text) for text in texts], dtype=np.uint8)
     of_edge = np.full(len(arrays.edge_begin) - 1, road_class(""), dtype=np.uint8)
-    of_edge[arrays.arc_edge] = kinds[which][arrays.arc_row]
+    of_edge[arrays.arc_edge[::-1]] = kinds[which][arrays.arc_row[::-1]]
     return sort_by_cell(
         lambda part: morton_codes(to_mercator(segment_middles(arrays.points, steps[part]))), of_edge, steps, edges
     )

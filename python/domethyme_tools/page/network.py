@@ -68,11 +68,11 @@ def wrapped(steps: Ints) -> Ints:
 
 
 def edge_kinds(network: MappedNetwork) -> NDArray[np.uint8]:
-    """The class of each edge's road, which is that of one of its arcs."""
+    """The class of each edge's road, which is that of its first arc."""
     highways, which = np.unique(network.arc_texts(slice(None), HIGHWAY), return_inverse=True)
     kinds = np.array([road_class(network.texts[each]) for each in highways.tolist()], dtype=np.uint8)
     found = np.full(len(network.edge_begin) - 1, road_class(""), dtype=np.uint8)
-    found[network.arc_edge[:]] = kinds[which]
+    found[network.arc_edge[::-1]] = kinds[which[::-1]]
     return found
 
 
