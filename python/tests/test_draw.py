@@ -280,19 +280,21 @@ class Draw(ToolCase):
     def test_areas(self):
         """By the names of their contours, or numbers, in their own colours, or the next ones, a third of each, below the roads."""
         features = [area("<b>", [ACROSS, ACROSS], contour=contour, metric=metric, fill=fill) for contour, metric, fill in (
-            (200, "distance", "red"), (2.5, "time", "#0072b2"), (7, "weight", "#ab01234"), ("7", "time", None))]
+            (1234567, "distance", "red"), (2.5, "time", "#0072b2"), (7, "weight", "#ab01234"), ("7", "time", None))]
         features[2]["geometry"] = {"type": "MultiPolygon", "coordinates": [[ACROSS, ACROSS], [ACROSS]]}
         drawn, wanted = self.picture_of(*features, words=[]), [*zip(("#0072b2", "#0072b2", *routes.COLOURS[2:4]), (2, 2, 3, 2))]
         *areas, first, second = drawn.findall("./g[@clip-path]//path")
         assert [(path.get("stroke"), path.get("d").count("Z")) for path in areas] == wanted
         assert [path.get(name) for path, name in ((first, "stroke"), (areas[1], "fill"), (areas[1], "fill-rule"))] == [
             "#8b877f", "#a8cde1", "evenodd"]
-        assert texts_at(drawn)[::2] == texts_at(drawn, "./g/g/title") == ["200 m", "2.5 min", "7", "area 4"]
+        assert texts_at(drawn)[::2] == texts_at(drawn, "./g/g/title") == ["1234567 m", "2.5 min", "7", "area 4"]
         assert [rect.get("fill") for rect in drawn.findall("./g[@transform]/rect")[1:]] == [path.get("fill") for path in areas]
         data, (lons, lats) = self.page_of(*features, words=[])[1], zip(*ACROSS)
         assert [(each["area"]["colour"], len(each["area"]["rings"])) for each in data["routes"]] == wanted
         assert data["bounds"] == [[min(lats), min(lons)], [max(lats), max(lons)]]
         assert texts_at(self.picture_of(features[0]), "./g/g/title") == ["<b>"]
+        nothing = {**NO_WAY, "properties": {"contour": 1, "metric": "time"}}
+        assert texts_at(self.picture_of(features[0], nothing, words=[]))[2:] == ["1 min", "nothing"]
 
     def test_corners(self):
         """The legend hides the fewest points of routes, also between their own, and of roads where corners are alike."""
@@ -419,6 +421,7 @@ GEOMETRY = [
     *((geometry.from_mercator, geometry.to_mercator([place]), pytest.approx(place)) for place in ((-180, 0), (20, 45), (179, -60))),
     (geometry.join_lines, ([["a", "b"], ["b", "b", "c"], ["c", "a"]],), ["a", "b", "c", "a"]),
     (geometry.path_of, ([(0, 0), (0.04, 0), (0.08, 0), (0.12, -0.04)],), "M0 0l0.1 0"),
+    (geometry.path_of, ([(-123_456.7, 0), (1_234_567.8, 0)],), "M-123456.7 0l1358024.5 0"),
     (geometry.delta_encode, ([(0, 1), (4e-7, 1), (8e-7, 1 + 4e-7)],), [0, 1_000_000, 0, 0, 1, 0]),
     (geometry.overlap_pieces, ([[A, B, C, D], [C, B, A, B], [B, C]], 9),
      [[(1, [A, B]), (2, [B, C]), (0, [C, D])], [(1, [C, B]), (0, [B, A, B])], [(0, [B, C])]]),

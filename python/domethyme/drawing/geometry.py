@@ -151,7 +151,7 @@ def path_of(pixels: Iterable[Point]) -> str:
     """A line as the text of an SVG path, in steps from pixel to pixel; steps of less than a tenth are left out."""
     tenths = itertools.groupby((round(x * TENTHS), round(y * TENTHS)) for x, y in pixels)
     begin, *steps = from_before([place for place, _ in tenths])
-    texts = [f"{x / TENTHS:g} {y / TENTHS:g}" for x, y in (begin, *(steps or [(0, 0)]))]
+    texts = [f"{x / TENTHS:.12g} {y / TENTHS:.12g}" for x, y in (begin, *(steps or [(0, 0)]))]
     return f"M{texts[0]}l{' '.join(texts[1:])}"
 
 

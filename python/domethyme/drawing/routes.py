@@ -13,7 +13,7 @@ from .geometry import overlap_pieces, point_at_fraction, unwrapped
 COLOURS = ["#0072b2", "#d55e00", "#009e73", "#cc5f9c", "#b8860b", "#2b8fc7", "#7b3294", "#5b7a1f"]
 NARROWEST, STEP_OF_WIDTH, MAX_NESTED = 4.5, 4, 3
 TOO_LARGE = 1e12
-CAPTION_OF_NONE = "no path"
+NO_PATH, NOTHING = "no path", "nothing"
 NO_NAME = "unnamed road"
 # The units of contours by their metrics, and a colour that an area may bring.
 CONTOURS = {"time": "min", "distance": "m"}
@@ -116,12 +116,13 @@ def make_route(feature: Any, place: FeatureRef, label: str | None, colour: str) 
     place.require(isinstance(feature, dict) and isinstance(feature.get("properties"), dict), "has no properties")
     properties, geometry = feature["properties"], feature.get("geometry")
     place.require(label is None or label in properties, f"has no property {label}")
-    name = None if label is None else str(properties[label])
+    contour = contour_of(properties)
+    name = contour if label is None else str(properties[label])
     if isinstance(geometry, dict) and geometry.get("type") in ("Polygon", "MultiPolygon"):
-        return make_area(properties, geometry, place, name, colour)
+        return make_area(properties, geometry, place, f"area {place.number}" if name is None else name, colour)
     name, line = f"route {place.number}" if name is None else name, read_line(geometry, place)
     if line is None:
-        return DrawnRoute(name, CAPTION_OF_NONE, colour)
+        return DrawnRoute(name, NO_PATH if contour is None else NOTHING, colour)
     metres = read_number(properties, "metres", place)
     figures = kilometres(metres)
     if properties.get("seconds", 0.0) is not None:
@@ -132,16 +133,17 @@ def make_route(feature: Any, place: FeatureRef, label: str | None, colour: str) 
     return DrawnRoute(name, figures, colour, shown, line, steps)
 
 
-def make_area(
-    properties: dict[str, Any], geometry: dict[str, Any], place: FeatureRef, name: str | None, colour: str
-) -> DrawnRoute:
-    """A feature with polygons, by its own colour where it has one, and called by its contour."""
+def contour_of(properties: dict[str, Any]) -> str | None:
+    """What a contour is called, by its number."""
+    contour, unit = properties.get("contour"), CONTOURS.get(str(properties.get("metric")), "")
+    return f"{contour:.12g} {unit}".strip() if is_number(contour) else None
+
+
+def make_area(properties: dict[str, Any], geometry: dict[str, Any], place: FeatureRef, name: str, colour: str) -> DrawnRoute:
+    """A feature with polygons, by its own colour where it has one."""
     whole = geometry.get("coordinates")
     polygons: Any = [whole] if geometry["type"] == "Polygon" else whole
     place.require(isinstance(polygons, list) and polygons and all(map(is_polygon, polygons)), "has no polygon of places")
-    contour, unit = properties.get("contour"), CONTOURS.get(str(properties.get("metric")), "")
-    if name is None:
-        name = f"{contour:g} {unit}".strip() if is_number(contour) else f"area {place.number}"
     fill = properties.get("fill")
     own = fill if isinstance(fill, str) and COLOUR.fullmatch(fill) else colour
     rings = [[(lon, lat) for lon, lat, *_ in ring] for polygon in polygons for ring in polygon]
