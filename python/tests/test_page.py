@@ -75,7 +75,7 @@ def made_in(folder, nodes, arcs, *words, name="n"):
 @pytest.fixture(scope="module", params=["car", "metres", "weights"])
 def network(request, tmp_path_factory):
     """A folder with the network n and its hierarchy n.rch: the village by time and by length, and a grid of weights alone over the
-    180th meridian, with bends, one-way roads and ferries."""
+    180th meridian, with bends, one-way roads and ferries, and a ring at each node."""
     folder = tmp_path_factory.mktemp("page")
     if request.param != "weights":
         return village_in(folder, *["--weight", "length"] * (request.param == "metres"))
@@ -87,6 +87,8 @@ def network(request, tmp_path_factory):
             wkt = ", ".join(f"{east:.7f} {north:.7f}" for east, north in line)
             figures = draw.randrange(2), draw.randrange(1, 5000), draw.choice(["ferry", *["primary"] * 4]), f"Way {x}"
             arcs.append((grid.index((x, y)), grid.index(other), *figures, f"LINESTRING ({wkt})"))
+        ring = ", ".join(f"{(lon + east / 1e4 + 180) % 360 - 180:.7f} {lat - south / 1e4:.7f}" for east, south in ((0, 0), (2, 3), (4, 2), (0, 0)))
+        arcs.append((grid.index((x, y)), grid.index((x, y)), 0, draw.randrange(500, 5000), "primary", "Ring", f"LINESTRING ({ring})"))
     return made_in(folder, [(node, *place) for node, place in enumerate(places.values())], arcs)
 
 

@@ -2,7 +2,6 @@
 // start to the point at which the limit is used up, where its weight is shared out along its line by metres.
 
 import { arcFraction, weightBefore } from "./snapping.js";
-import { NO_ARC } from "./network.js";
 
 // For each limit, which rise, the lines of the roads within it, as typed arrays: the points of line i are
 // points[2 * begins[i]] to points[2 * begins[i + 1]], longitude first.
@@ -37,9 +36,9 @@ function shares(network, edge, lengths, limit) {
   return [...(first > 0 ? [[0, first]] : []), ...(last > 0 ? [[1 - last, 1]] : [])];
 }
 
-// For each arc by which the place leaves its road, between which shares of the edge it reaches within each limit.
+// For each arc of the road of a place that is no node, between which shares of the edge it reaches within each limit.
 function partsAt(network, place, limits) {
-  const arcs = [...place.exits.values()].map(({ arc }) => arc).filter((arc) => arc !== NO_ARC);
+  const arcs = place.copies.length ? [] : network.arcs(place.edge);
   return arcs.map((arc) => {
     const weight = network.arcWeight[arc], before = weightBefore(network, arc, place.fraction), share = arcFraction(network, arc, place.fraction);
     return limits.map((limit) => {
