@@ -186,7 +186,7 @@ class TestRules:
                 assert length_of(lines) == pytest.approx(length_of(reach.roads(number)), abs=1e-5 + 2e-6 * len(lines))
 
     def test_tiles_as_the_service_has_them(self, network, tmp_path):
-        """The same steps of roads by kind and name as the service's, at zooms with names; fewer repeated ones without."""
+        """The same steps of roads by kind and name as the service's, at zooms with names; fewer repeated ones without; in the world all."""
         arrays = load_network(str(network / "n"))
         tiles, (west, south, east, north) = Tiles(arrays), arrays.box
         def tile(zoom, lon, lat):
@@ -207,7 +207,7 @@ class TestRules:
         total = 0
         for key, answer in zip(keys, found, strict=True):
             wanted = set(steps(json.loads(tiles.tile(*map(int, key.split("/"))))))
-            assert len(wanted ^ set(steps(answer))) <= 2 + len(wanted) // 50, key
+            assert len(wanted ^ set(steps(answer))) <= (2 + len(wanted) // 50 if key != "0/0/0" else 0), key
             total += len(wanted)
         assert total > 100
 

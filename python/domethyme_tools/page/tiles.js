@@ -50,6 +50,7 @@ function addLines(network, edge, found, zoom, x, y) {
       if (middle < 0 || middle >= 1 || down < 0 || down >= 1) end();
       else {
         const from = [last[2] - turn * GRID, last[3]], to = [point[0] - turn * GRID, point[1]];
+        if (line && from[0] !== line.at[0]) end(); // (across the antimeridian, where the tile is the world)
         line ??= { at: from, steps: [...from] };
         if (to[0] !== line.at[0] || to[1] !== line.at[1]) line.steps.push(to[0] - line.at[0], to[1] - line.at[1]);
         line.at = to;
