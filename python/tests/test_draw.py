@@ -9,6 +9,7 @@ import xml.etree.ElementTree as xml
 from unittest import mock
 
 import pytest
+from browser import Browser
 from draws import run_tool
 from tool_case import VILLAGE, ToolCase, contrast
 
@@ -56,6 +57,15 @@ REFUSED = [
     (route("a", ACROSS, steps=["High Street"]), "has no list of steps"),
     ({**EAST, "geometry": {"type": "Polygon", "coordinates": [[[0, 0], [0.001, 0], [0, 0]]]}}, "has no polygon of places"),
 ]
+
+
+# Of each layer of a page its class or colour, width, filling and dashes, its places, and the pixels of these.
+LAYERS = """(() => { const found = []; map.eachLayer((layer) => {
+  const {className, color, weight, fillColor = null, dashArray = null} = layer.options;
+  const points = layer.getRadius ? [layer.getLatLng()] : layer.getLatLngs ? layer.getLatLngs().flat(2) : [];
+  const pixels = points.map((each) => map.latLngToContainerPoint(each)), look = [className ?? color, weight, fillColor, dashArray];
+  if (points.length) found.push([...look, points.map(({lat, lng}) => [lng, lat]), pixels.map(({x, y}) => [x, y])]);
+}); return found; })()"""
 
 
 def texts_at(picture, path="./g[@transform]/text"):
@@ -409,6 +419,45 @@ class Draw(ToolCase):
         ]:
             with pytest.raises(SystemExit, match="2"):
                 run_tool("draw", "net", *["routes"] * bool(words), *words)
+
+
+    @pytest.mark.needs("chromium")
+    def test_page_in_a_browser(self):
+        """Lines, ends and areas are where they were, arrows as in pictures, and a row of the legend lifts its route and tells its streets."""
+        self.network(NODES, ARCS.replace(",WKT", ",structure,WKT").replace(',"LINE', ',,"LINE').replace("Slip,,", "Slip,tunnel,"))
+        east, line = EAST["geometry"]["coordinates"], [[0.004, 0], [0.004, 0.003], [0.001, 0.004]]
+        north = route("north", line, steps=[{"name": "Up", "metres": 900}])
+        features = area("reached", [ACROSS], fill="#0072b2"), EAST, north, NO_WAY
+        self.page_of(*features, words=["--label", "trip", "--attribution", "© Us"])
+        browser = Browser()
+        self.addCleanup(browser.close)
+        for is_dark, tint, colours in ((False, "rgb(167,205,225)", ("#8b877f", "#7c776e")), (True, "rgb(18,57,80)", ("#7c776e", "#8b877f"))):
+            browser.open(f"file://{self.folder}/out.html", is_dark=is_dark)
+            layers = browser.value(LAYERS)
+            wanted = [("#0072b2", 1, tint, None, ACROSS[:4]), (colours[0], 1.8, None, None, east[:3]), (colours[1], 3, None, "5 4", east[2:])]
+            for number, way in enumerate((east, line)):
+                look, name = f"colour-{number + 1}", f"route route-{number}"
+                looks = ("edge", 7, way), (f"{name} {look}", 4.5, way), (f"ring {look}", 3, way[:1]), (f"dot {look}", 2, way[-1:])
+                wanted += [(name, width, None, None, places) for name, width, places in looks]
+                [pixels] = [each[5] for each in layers if each[0] == f"{name} {look}"]
+                tips = [each[5][0] for each in layers if each[0] == f"arrow arrow-of-route-{number} {look}"]
+                for tip, ((x, y), (right, down)) in zip(tips, geometry.arrows(pixels, 130), strict=True):
+                    assert tip == pytest.approx([x + 7 * right, y + 7 * down], abs=1)
+            shown = [(*look, [[round(each, 9) for each in place] for place in places]) for *look, places, _ in layers]
+            assert sorted(each for each in shown if not each[0].startswith("arrow")) == sorted(wanted)
+        told = {".legend": f"What is reached\nreached\n{LABEL}\n0.44 km, 1.5 min\nnorth\n0.44 km, 1.5 min\nnowhere\nno path",
+                ".leaflet-popup-content": "north\n0.44 km, 1.5 min\nUp\t900 m", ".leaflet-control-attribution": "Leaflet | © Us"}
+        row = "document.querySelectorAll('.legend button')[2]"
+        assert browser.value(f"{row}.focus(), [...document.querySelectorAll('path.route.faded')].map((each) => each.classList[1])") == ["route-0"]
+        browser.value(f"{row}.click()")
+        assert {name: browser.value(f"document.querySelector('{name}').innerText.trim()") for name in told} == told
+        texts = browser.value("[...document.querySelectorAll('.name')].map((each) => each.innerText)")
+        assert {"north", "Up", f"{LABEL[:23]}…"} == {*texts}
+        script = "[14.75, 15].map((zoom) => map.setZoom(zoom, {animate: false}) && document.querySelectorAll('.street').length)"
+        assert browser.value(script) == [0, 1]  # (the names of streets come with zoom 15)
+        browser.value("map.setZoom(5, {animate: false}), document.querySelector('a.all').click()")
+        browser.until("map.getBounds().contains(data.bounds) && map.getZoom() > 16")
+        assert not browser.faults and {*browser.asked} == {f"file://{self.folder}/out.html"}
 
 
 A, B, C, D = (0, 0), (1, 0), (2, 0), (3, 0)
