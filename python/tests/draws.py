@@ -94,7 +94,8 @@ def networks(draw: Any, kinds: Sequence[str] = KINDS, most: int = 8, origins: Se
         texts = way + 1, *(draw(st.sampled_from(some)) for some in (NAMES, REFS, REFS, JUNCTIONS)), highway
         arcs.append(draw_arc(draw, kind, start, end, line, texts))
         if draw(st.booleans()):
-            other = texts[0], draw(st.sampled_from(NAMES)), *texts[2:-1], {"track": "ferry", "ferry": "track"}.get(highway, HIGHWAYS[0])
+            turned = {"track": "ferry", "ferry": "track"}.get(highway, HIGHWAYS[0])
+            other = texts[0], draw(st.sampled_from(NAMES)), *texts[2:-1], turned
             arcs.append(draw_arc(draw, kind, end, start, line[::-1], other if draw(st.integers(0, 3)) == 0 else texts))
         if draw(st.integers(0, 5)) == 0:
             arcs.append(draw_arc(draw, kind, start, end, line, texts))

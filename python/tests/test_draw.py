@@ -423,7 +423,7 @@ class Draw(ToolCase):
 
     @pytest.mark.needs("chromium")
     def test_page_in_a_browser(self):
-        """Lines, ends and areas are where they were, arrows as in pictures, and a row of the legend lifts its route and tells its streets."""
+        """Lines, ends and areas are where they were, arrows as in pictures, and a row of the legend lifts its route."""
         self.network(NODES, ARCS.replace(",WKT", ",structure,WKT").replace(',"LINE', ',,"LINE').replace("Slip,,", "Slip,tunnel,"))
         east, line = EAST["geometry"]["coordinates"], [[0.004, 0], [0.004, 0.003], [0.001, 0.004]]
         north = route("north", line, steps=[{"name": "Up", "metres": 900}])
@@ -431,10 +431,12 @@ class Draw(ToolCase):
         self.page_of(*features, words=["--label", "trip", "--attribution", "© Us"])
         browser = Browser()
         self.addCleanup(browser.close)
-        for is_dark, tint, colours in ((False, "rgb(167,205,225)", ("#8b877f", "#7c776e")), (True, "rgb(18,57,80)", ("#7c776e", "#8b877f"))):
+        grey = ["#8b877f", "#7c776e"]
+        for is_dark, tint, colours in ((False, "rgb(167,205,225)", grey), (True, "rgb(18,57,80)", grey[::-1])):
             browser.open(f"file://{self.folder}/out.html", is_dark=is_dark)
             layers = browser.value(LAYERS)
-            wanted = [("#0072b2", 1, tint, None, ACROSS[:4]), (colours[0], 1.8, None, None, east[:3]), (colours[1], 3, None, "5 4", east[2:])]
+            wanted = [("#0072b2", 1, tint, None, ACROSS[:4]), (colours[0], 1.8, None, None, east[:3])]
+            wanted += [(colours[1], 3, None, "5 4", east[2:])]
             for number, way in enumerate((east, line)):
                 look, name = f"colour-{number + 1}", f"route route-{number}"
                 looks = ("edge", 7, way), (f"{name} {look}", 4.5, way), (f"ring {look}", 3, way[:1]), (f"dot {look}", 2, way[-1:])
@@ -448,7 +450,8 @@ class Draw(ToolCase):
         told = {".legend": f"What is reached\nreached\n{LABEL}\n0.44 km, 1.5 min\nnorth\n0.44 km, 1.5 min\nnowhere\nno path",
                 ".leaflet-popup-content": "north\n0.44 km, 1.5 min\nUp\t900 m", ".leaflet-control-attribution": "Leaflet | © Us"}
         row = "document.querySelectorAll('.legend button')[2]"
-        assert browser.value(f"{row}.focus(), [...document.querySelectorAll('path.route.faded')].map((each) => each.classList[1])") == ["route-0"]
+        script = "[...document.querySelectorAll('path.route.faded')].map((each) => each.classList[1])"
+        assert browser.value(f"{row}.focus(), {script}") == ["route-0"]
         browser.value(f"{row}.click()")
         assert {name: browser.value(f"document.querySelector('{name}').innerText.trim()") for name in told} == told
         texts = browser.value("[...document.querySelectorAll('.name')].map((each) => each.innerText)")

@@ -87,8 +87,9 @@ def network(request, tmp_path_factory):
             wkt = ", ".join(f"{east:.7f} {north:.7f}" for east, north in line)
             figures = draw.randrange(2), draw.randrange(1, 5000), draw.choice(["ferry", *["primary"] * 4]), f"Way {x}"
             arcs.append((grid.index((x, y)), grid.index(other), *figures, f"LINESTRING ({wkt})"))
-        ring = ", ".join(f"{(lon + east / 1e4 + 180) % 360 - 180:.7f} {lat - south / 1e4:.7f}" for east, south in ((0, 0), (2, 3), (4, 2), (0, 0)))
-        arcs.append((grid.index((x, y)), grid.index((x, y)), 0, draw.randrange(500, 5000), "primary", "Ring", f"LINESTRING ({ring})"))
+        moves, node = ((0, 0), (2, 3), (4, 2), (0, 0)), grid.index((x, y))
+        ring = ", ".join(f"{(lon + east / 1e4 + 180) % 360 - 180:.7f} {lat - south / 1e4:.7f}" for east, south in moves)
+        arcs.append((node, node, 0, draw.randrange(500, 5000), "primary", "Ring", f"LINESTRING ({ring})"))
     return made_in(folder, [(node, *place) for node, place in enumerate(places.values())], arcs)
 
 
@@ -186,7 +187,7 @@ class TestRules:
                 assert length_of(lines) == pytest.approx(length_of(reach.roads(number)), abs=1e-5 + 2e-6 * len(lines))
 
     def test_tiles_as_the_service_has_them(self, network, tmp_path):
-        """The same steps of roads by kind and name as the service's, at zooms with names; fewer repeated ones without; in the world all."""
+        """The same steps of roads by kind and name as the service's, at zooms with names; without, fewer repeated ones."""
         arrays = load_network(str(network / "n"))
         tiles, (west, south, east, north) = Tiles(arrays), arrays.box
         def tile(zoom, lon, lat):

@@ -83,13 +83,15 @@ SAID = {
         ["< 1 min", "1 min", "1 min", "2 min", "59 min", "1 h 0 min", "2 h 5 min", "100 h 0 min"],
     "[0, 94.4, 95, 994, 995, 99499, 99500].map(far)": ["0 m", "94 m", "100 m", "990 m", "1.0 km", "99.5 km", "100 km"],
     "[[9.5, 47.1], [-0.5, -1]].map(where)": ["47.1000° N, 9.5000° E", "1.0000° S, 0.5000° W"],
-    "['0.2 5', '600', '600.1', '0', '1,1', '1;2;3;4;5'].map((text) => limitsOf(text, 600))": ["0.2,5", "600", None, None, None, None],
+    "['0.2 5', '600', '600.1', '0', '1,1', '1;2;3;4;5'].map((text) => limitsOf(text, 600))":
+        ["0.2,5", "600", None, None, None, None],
     "[['A', 'B1'], ['A', 'A'], ['', 'B1'], ['A']].map(([name, ref]) => street({name, ref}))": ["A (B1)", "A", "B1", "A"],
     "['distance', 'weight'].map((weight_name) => takes({duration: null, weight: 5, weight_name}))": ["", "weight 5"],
     "[1, 2, 3, 4, 11, 12, 13, 21, 0].map((exit) => told({name: 'A', maneuver: {type: 'rotary', exit}}))":
-        [f"At the roundabout take the {which}exit onto A" for which in ("1st ", "2nd ", "3rd ", "4th ", "11th ", "12th ", "13th ", "21st ", "")],
-    """[['turn', 'uturn'], ['turn', 'straight'], ['fork', 'slight left'], ['turn', 'right'], ['new name', 'straight'], ['continue', 'left']]
-       .map(([type, modifier]) => told({name: 'A', destinations: 'B', maneuver: {type, modifier}}))""":
+        [f"At the roundabout take the {which} onto A" for which in (
+            "1st exit", "2nd exit", "3rd exit", "4th exit", "11th exit", "12th exit", "13th exit", "21st exit", "exit")],
+    """[['turn', 'uturn'], ['turn', 'straight'], ['fork', 'slight left'], ['turn', 'right'], ['new name', 'straight'],
+       ['continue', 'left']].map(([type, modifier]) => told({name: 'A', destinations: 'B', maneuver: {type, modifier}}))""":
         ["Make a U-turn onto A", *(f"{what} A towards B" for what in (
             "Go straight on onto", "Keep left onto", "Turn right onto", "Continue onto", "Turn left and stay on"))],
     "['start', 'end', 'via'].map((role) => told({name: '', maneuver: {type: 'arrive'}}, role))":
