@@ -180,7 +180,8 @@ def penalties_of(network: RoadNetwork, turns: Turns, penalties: dict[str, int]) 
     piece of road by which one came, or within BACK degrees of it."""
     into, out = turns.into[turns.turn], turns.out
     (east, north), (east_after, north_after) = headings(network, into, is_end=True), headings(network, out, is_end=False)
-    angle = np.degrees(np.arctan2(east * north_after - north * east_after, east * east_after + north * north_after))
+    # (a step without a length leads straight on: its 0 may have a sign, by which it would lead back)
+    angle = np.degrees(np.arctan2(east * north_after - north * east_after, east * east_after + north * north_after + 0.0))
     is_back = (network.piece[into] == network.piece[out]) & (network.is_back[into] != network.is_back[out])
     found = np.zeros(len(into), np.int32)
     found[angle > STRAIGHT] = penalties.get("left", 0)

@@ -1,0 +1,183 @@
+"""Networks of drawn maps, whose ways have tags of all kinds, are those of the model."""
+import json
+import math
+import pathlib
+import re
+import tempfile
+from collections import Counter
+from collections.abc import Sequence
+from typing import Any
+from unittest import mock
+from xml.sax.saxutils import quoteattr
+
+import numpy as np
+import pandas
+from comparing import difference
+from draws import ORIGINS, drawn, run_tool
+from hypothesis import given
+from hypothesis import strategies as st
+from model.conversion import Arc, Map, Node, convert, largest, rules_of, split
+from model.network import Ambiguous
+from model.sphere import Point
+from model.vehicles import is_road, speeds
+from test_profiles import BARRIERS, VEHICLES, tags_of, ways_of
+from tool_case import IN_TABLES, PYTHON
+
+import domethyme
+from domethyme.dimacs import read_graph
+from domethyme.errors import MapError
+from domethyme.network import from_tables, parallel
+from domethyme.network.columns import TEXTS
+
+# What tags of ways may be, beside those of test_profiles.
+ACCESS = ["yes", "no", "private", "destination", "delivery", "agricultural; forestry", "agricultural;yes", "bicycle", "dismount"]
+SPEEDS = ["50", " 30 mph ", "10 knots", "70.5kph", "none", "walk", "DE:urban", "RO:rural", "DE:zone:30", "NL:zone60", "signals", "0", "1001"]
+LIMITS = ["3.9", "4", "380 cm", "11'6\"", "13' 2\"", "4.1m", "default", "tall", "7.5 t", "39999 kg", "40 st", "88000 lbs", "0"]
+NAMES = {
+    "name": ["High  Street", "\u2003", " =1+1 ", "Rue \u00e9"], "ref": ["B 1", " M2;E3", ""], "destination": ["X;Y ", ""],
+    "junction": [" yes  x", "roundabout"], "tunnel": ["no", "yes", "passage"], "bridge": ["viaduct", "no"], "toll": ["yes", "no", "hgv"],
+}
+TAGS = NAMES | {
+    **dict.fromkeys(("access", "vehicle", "motor_vehicle", "motorcar", "hgv", "bicycle", "foot"), ACCESS),
+    **dict.fromkeys(("maxspeed", "maxspeed:forward", "maxspeed:backward", "maxspeed:hgv", "maxspeed:hgv:backward"), SPEEDS),
+    **dict.fromkeys(("maxheight", "maxwidth:physical", "maxlength", "maxweight", "maxweightrating:hgv", "maxaxleload"), LIMITS),
+    **dict.fromkeys(("oneway", "oneway:bicycle", "oneway:foot"), ["yes", "true", "1", "-1", "reverse", "no", "reversible", "alternating"]),
+    "junction": ["roundabout", "circular"], "area": ["yes", "no"], "surface": ["gravel", "mud", "asphalt", "sand"],
+    "cycleway": ["opposite", "lane"], "cycleway:left:oneway": ["-1", "yes"], "motorroad": ["yes", "no"], "route": ["ferry", "bus"],
+}
+DURATIONS = ["3", "0", "1:30", " 00:02:30", "PT2M5S", "PT1H", "PT", "P1D", "12345", "1:60", "1:2", "900:00:00"]
+TURNS = ["restriction=no_left_turn", "restriction=only_right_turn", "restriction=no_u_turn", "restriction=stop", "restriction:hgv=no_entry",
+         "restriction=no_exit except=bicycle", "restriction=only_u_turn except=x;~motor_vehicle", "restriction:foot=no_left_turn",
+         "restriction:conditional=no_left_turn", "restriction:motorcar=give_way restriction=no_entry", "type=route restriction=no_entry"]
+# Members that a profile may have in place of its own.
+MEMBERS = {
+    "turns": [{"left": 500, "right": 200, "back": 2000}, {"left": 0, "right": 0}, {"back": 1}], "driving_side": ["left", "right"],
+    "mode": ["driving", "walking"], "fastest": [20, 60.5], "surfaces": [{"mud": 4}], "measures": [{"maxheight": 4, "maxweight": 7.5}],
+    "closed_by": [["motorroad=yes"], []], "only_where_allowed": [["primary"]], "both_ways": [["cycleway=opposite"]],
+    "oneway": [["oneway", "oneway:foot"]], "restrictions": [["restriction:foot", "restriction:hgv"]], "oneway_highways": [["primary"]],
+    "maxspeed": [["maxspeed:hgv", "maxspeed"], []], "maxspeed_words": [{"*:urban": 44, "DE:urban": 45.5, "signals": 10}],
+    "barriers": [["gate"]],
+}
+
+
+@st.composite
+def maps(draw: Any) -> Map:
+    """A map of ways that meet, pass barriers and the same nodes again, name nodes that it lacks, and are cut at nodes; some of which
+    vehicles may not take."""
+    origin, first = draw(st.sampled_from([ORIGINS[0], ORIGINS[1], (0.0, 0.0003)])), draw(st.sampled_from([1, -40, 1 << 33, (1 << 62) + 1]))
+    step = draw(st.sampled_from([st.integers(-40, 40), st.integers(-2, 2).map(lambda number: 20 * number)]))
+    steps = draw(st.lists(st.tuples(step, step, st.sampled_from([0, 0, 1e-7, -3e-7])), min_size=2, max_size=9))
+    lons = (origin[0] + east * 1e-4 / math.cos(math.radians(origin[1])) for east, *_ in steps)
+    places = [(math.remainder(lon, 360), origin[1] + north * 1e-4 + more) for lon, (_, north, more) in zip(lons, steps)]
+    barriers = st.one_of(st.just({}), st.just({}), st.just({}), st.sampled_from([tags_of(row[0]) for row in BARRIERS]))
+    nodes = {number: ((round(lon, 7), round(lat, 7)), draw(barriers)) for number, (lon, lat) in enumerate(places, first)}
+    refs = st.lists(st.sampled_from([*nodes, first + len(nodes)]), min_size=1, max_size=6)
+    ends, kinds = st.lists(st.sampled_from([*nodes]), min_size=2, max_size=3), [tags_of(text) for name in VEHICLES for text, *_ in ways_of(name)]
+    ways, relations = {}, []
+    for way in range(draw(st.integers(1, 9))):
+        tags: dict[str, str] = {"highway": draw(st.sampled_from(["residential", "primary", "tertiary"]))}
+        kind = draw(st.sampled_from(["plain", "plain", "more", "more", "texts", "page", "ferry"]))
+        tags = {"ferry": {"route": "ferry"}, "page": tags | draw(st.sampled_from(kinds))}.get(kind, tags)
+        texts = {"plain": {}, "texts": NAMES, "ferry": {"duration": DURATIONS, "name": ["Boat"]}}.get(kind, TAGS)
+        keys = draw(st.lists(st.sampled_from([*texts]), max_size=5)) if texts else []
+        ways[first + way] = draw(st.one_of(refs, ends)), tags | {key: draw(st.sampled_from(texts[key])) for key in keys}
+    for _ in range(draw(st.sampled_from([0, 1, 3, 6]))):
+        via = draw(st.sampled_from([*nodes]))
+        near = [way for way, (line, _) in ways.items() if via in (line[0], line[-1])] or [*ways]
+        some = [("w", draw(st.sampled_from(near)), "from"), ("n", via, "via"), ("w", draw(st.sampled_from([*near * 3, first + 30])), "to")]
+        more = ("w", near[0], "from"), ("n", via, "to"), ("n", via, "via"), ("w", via, "where"), ("w", via, "via")
+        some += draw(st.sampled_from([[], [], [], *([member] for member in more)]))
+        some = some[:1] + some[2:] if draw(st.integers(0, 20)) == 0 else some
+        relations.append(({"type": "restriction", **tags_of(draw(st.sampled_from(TURNS)))}, some))
+    return Map(nodes, ways, relations)
+
+
+def xml_of(made: Map, is_turned: bool) -> str:
+    """The text of a map; turned round, its nodes come last."""
+    def element(name: str, number: int, inner: Sequence[str], tags: Any, more: str = "") -> str:
+        text = [f"<tag k={quoteattr(key)} v={quoteattr(value)}/>" for key, value in tags.items()]
+        return f"<{name} id='{number}'{more}>{''.join(inner)}{''.join(text)}</{name}>"
+
+    kinds = {"w": "way", "n": "node"}
+    nodes = [element("node", node, [], tags, f" lon='{lon:.7f}' lat='{lat:.7f}'") for node, ((lon, lat), tags) in made.nodes.items()]
+    lines = [element("way", way, [f"<nd ref='{ref}'/>" for ref in refs], tags) for way, (refs, tags) in made.ways.items()]
+    for number, (tags, members) in enumerate(made.relations):
+        rows = [f"<member type='{kinds[kind]}' ref='{ref}' role='{role}'/>" for kind, ref, role in members]
+        lines.append(element("relation", number, rows, tags))
+    return f"<osm version='0.6'>{''.join(lines + nodes[::-1] if is_turned else nodes + lines)}</osm>"
+
+
+def rows_of_file(network: Any) -> dict[str, list[Any]]:
+    """The nodes and arcs of a network's file, with places as texts."""
+    nodes, arcs = network.nodes_frame(), network.arcs_frame()
+    columns = [[None if value is pandas.NA else value for value in nodes[name].tolist()] for name in ("osm", "lon", "lat", "ends")]
+    of_arcs = (arcs[name].tolist() for name in ("from", "to", "weight", "seconds", "metres", "osm", *TEXTS, "WKT"))
+    return {"nodes": [(osm, wkt([(lon, lat)]), ends) for osm, lon, lat, ends in zip(*columns)], "arcs": [*zip(*of_arcs)]}
+
+
+def rows_of(nodes: list[Node], arcs: list[Arc], weight: str) -> dict[str, list[Any]]:
+    """The same of the model's."""
+    rows = []
+    for arc in arcs:
+        number = max(1, round(amount_of(arc, weight))) + 10 * arc.penalty * (weight == "time")
+        figures = number, round(amount_of(arc, "time") / 1000 + arc.penalty / 100, 3), round(arc.metres, 2)
+        rows.append((arc.start, arc.end, *figures, arc.way, *arc.texts, wkt(arc.line)))
+    return {"nodes": [(node.osm, wkt([node.place]), node.ends) for node in nodes], "arcs": rows}
+
+
+def amount_of(arc: Arc, weight: str) -> float:
+    """The milliseconds of an arc, or its centimetres, without a penalty."""
+    return arc.metres * 3600 / arc.kmh if weight == "time" else arc.metres * 100
+
+
+def wkt(line: Sequence[Point]) -> str:
+    return f"LINESTRING ({', '.join(f'{lon + 0.0:.7f} {lat + 0.0:.7f}' for lon, lat in line)})"
+
+
+@drawn(150)
+@given(st.data())
+def test_networks(data: Any) -> None:
+    """By any profile, with and without islands, however long the parts are that threads make; what is said of them; and the file has the
+    arrays that the reader of tables makes."""
+    made, vehicle = data.draw(maps()), data.draw(st.sampled_from(VEHICLES))
+    profile = json.loads((PYTHON / f"domethyme/maps/profiles/{vehicle}.json").read_text(encoding="utf-8"))
+    for name in data.draw(st.sets(st.sampled_from([*["turns"] * 4, *sorted(MEMBERS)]), max_size=3)):
+        profile[name] = data.draw(st.sampled_from(MEMBERS[name]))
+    weight, longest = data.draw(st.sampled_from(["time", "length"])), data.draw(st.sampled_from([90, 250, 2000]))
+    ignore, islands, rows = data.draw(st.integers(0, 3)) == 0, data.draw(st.booleans()), data.draw(st.sampled_from([1, 7, 1 << 16]))
+    try:
+        nodes, arcs = convert(made, profile, longest)
+    except Ambiguous:
+        return
+    rules, others = rules_of(made, profile)
+    arcs = split(nodes, arcs, {} if ignore else rules, profile.get("turns", {}))
+    words = ["--weight", weight, "--longest-arc", longest, *["--ignore-turn-restrictions"] * ignore, *["--keep-islands"] * islands]
+    with tempfile.TemporaryDirectory() as name, mock.patch.object(parallel, "SLICE_ROWS", rows):
+        out = pathlib.Path(name, "map")
+        out.with_suffix(".osm").write_text(xml_of(made, data.draw(st.booleans())), encoding="utf-8")
+        out.with_suffix(".json").write_text(json.dumps(profile))
+        try:
+            said = run_tool("osm_to_gr", f"{out}.osm", out, "--profile", f"{out}.json", "--tables", *words)[1]
+        except MapError as error:
+            assert "has no road that the profile takes" in str(error) and not arcs
+            return
+        network, graph, of_tables = domethyme.Network(out), read_graph(f"{out}.gr"), from_tables.arrays_from_tables(str(out))
+        found, arrays = rows_of_file(network), network.arrays
+        for each in IN_TABLES:
+            np.testing.assert_array_equal(getattr(arrays, each)[:], getattr(of_tables, each), each, strict=True)
+    assert [*zip(graph.starts, graph.ends, graph.weights)] == [row[:3] for row in found["arcs"]] and graph.nodes == len(found["nodes"])
+    candidates = [(nodes, arcs)] if islands else largest(nodes, arcs)
+    fits = [each for each in candidates if rows_of(*each, weight) == found]
+    assert fits, difference(found, rows_of(*candidates[0], weight))
+    assert (arrays.driving_side, arrays.mode) == (profile.get("driving_side", "right"), profile.get("mode", "driving"))
+    refused = (speeds({"highway": "ferry", **tags}, profile) for _, tags in made.ways.values() if is_road(tags, profile))
+    counts = Counter(reason for reason in refused if isinstance(reason, str))
+    counts |= {f"turn restrictions {what}": 0 if ignore and what.endswith(("left out", "the node")) else count for what, count in others.items()}
+    counts["nodes outside the largest strongly connected component"] = len(nodes) - len(found["nodes"])
+    counts["weights raised to 1"] = sum(amount_of(arc, weight) <= 0.5 for arc in fits[0][1])
+    has_penalties = any(profile.get("turns", {}).values())
+    counts["nodes split by turns" if has_penalties else "junctions split by turn restrictions"] = sum(node.ends == "from" for node in nodes)
+    for what in {*counts, *re.findall("(?:ways left out (?:by|as)|turn restrictions) .*(?=:)", said)}:
+        assert (f"osm_to_gr: {what}: {counts[what]}\n" in said) == (f": {what}: " in said) == (counts[what] > 0), (said, counts)
+    metres = {arc.piece: arc.metres for arc in fits[0][1]}.values()
+    assert f"/map: {len(found['nodes'])} nodes, {len(found['arcs'])} arcs, {sum(metres) / 1000:.1f} km of road\n" in said
