@@ -11,7 +11,15 @@ from .program import StrPath
 from .progress import Progress, reporting
 
 # What the names of a network's files end with.
-ENDING = re.compile(r"\.(rch|net|gr)$")
+ENDING = re.compile(r"\.(rch|net|gr|co|((nodes|arcs)\.)?csv)$")
+
+
+def prefix_fault(out: str) -> str:
+    """Why the names of a network's files can't begin with this, or the empty text."""
+    if not os.path.basename(out) or os.path.isdir(out):
+        return f"is a prefix of files, as {os.path.join(out, 'map')}, and {out!r} is a folder, or empty"
+    prefix = ENDING.sub("", out)
+    return f"is a prefix of files, as {prefix}, and {out!r} the name of one" if prefix != out else ""
 
 
 def from_osm(
@@ -37,10 +45,8 @@ def from_osm(
     from .network.network import Network
 
     names = os.fspath(out)
-    if not os.path.basename(names) or os.path.isdir(names):
-        raise ValueError(f"out is a prefix of files, as {os.path.join(names, 'map')}, and {names!r} is a folder, or empty")
-    if (prefix := ENDING.sub("", names)) != names:
-        raise ValueError(f"out is a prefix of files, as {prefix}, and {names!r} the name of one")
+    if fault := prefix_fault(names):
+        raise ValueError(f"out {fault}")
     chosen, rules = conversion.options_of(options), vehicle_profile.read_profile(os.fspath(profile))
     with reporting(progress) as on_progress:
         conversion.write_network(path, names, rules, chosen, on_progress)

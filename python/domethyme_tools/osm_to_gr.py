@@ -41,7 +41,6 @@ and nothing is written. 2: the arguments were refused.
 import argparse
 import contextlib
 import dataclasses
-import os
 import sys
 import textwrap
 
@@ -50,6 +49,7 @@ from domethyme.maps.conversion import MAX_METRES, Options, outputs_of, write_net
 from domethyme.maps.road_network import WEIGHTS
 from domethyme.maps.vehicle_profile import read_profile
 from domethyme.network.tables import ALL_ARC_COLUMNS, OSM_ATTRIBUTION
+from domethyme.opening import prefix_fault
 from domethyme.progress import reporting
 
 from .cli import argument_parser, current_arguments, refuse_overwriting
@@ -91,11 +91,9 @@ def parse_args() -> argparse.Namespace:
     parser.add_argument("--attribution", default=OSM_ATTRIBUTION, metavar="TEXT",
                         help="the attribution that maps of the network show; empty for none (%(default)s)")
     options = parser.parse_args(current_arguments(RENAMED))
-    out = options.out
-    if not os.path.basename(out) or os.path.isdir(out):
-        fault = f"{out} is a folder" if out else "it is empty"
-        parser.error(f"OUT is a prefix of files, as {os.path.join(out, 'map')}, and {fault}")
-    refuse_overwriting(parser, outputs_of(out, chosen(options)), [options.map, options.profile])
+    if fault := prefix_fault(options.out):
+        parser.error(f"OUT {fault}")
+    refuse_overwriting(parser, outputs_of(options.out, chosen(options)), [options.map, options.profile])
     return options
 
 

@@ -24,14 +24,13 @@ Exit status: 0; 1 for bad input or a failed write, with one line on standard err
 are refused.
 """
 import argparse
-import os
 
 from domethyme.atomic_files import atomic_write
 from domethyme.belonging import older_hierarchy
 from domethyme.network.from_tables import load_network_or_dimacs
 from domethyme.network.reweigh import read_speeds, write_reweighed
 from domethyme.network.tables import Files, paths_of
-from domethyme.opening import ENDING
+from domethyme.opening import prefix_fault
 
 from .cli import argument_parser, display_name, refuse_overwriting, warn
 
@@ -46,10 +45,8 @@ def parse_args() -> argparse.Namespace:
     parser.add_argument("out", metavar="OUT", help="the prefix of the files that are written")
     parser.add_argument("--unmatched", metavar="FILE", help="write the numbers of the rows that match nothing, a line each")
     options = parser.parse_args()
-    if not os.path.basename(options.out) or os.path.isdir(options.out):
-        parser.error("OUT is a prefix of files, as out/now, and no folder")
-    if (prefix := ENDING.sub("", options.out)) != options.out:
-        parser.error(f"OUT is a prefix of files, as {prefix}, and {options.out} is the name of one")
+    if fault := prefix_fault(options.out):
+        parser.error(f"OUT {fault}")
     names = Files(options.out)
     refuse_overwriting(parser, [names.graph, names.binary, options.unmatched], [options.speeds, *paths_of(options.network)])
     return options

@@ -51,7 +51,7 @@ from domethyme.network.columns import DRIVING_SIDES
 from domethyme.network.components import in_largest, islands, keep, quartiles
 from domethyme.network.table_files import bytes_of, tables_there, write_graph_of, write_tables
 from domethyme.network.tables import ARC_COLUMNS, NODE_COLUMNS, Files, has_columns, read_attribution
-from domethyme.opening import ENDING
+from domethyme.opening import prefix_fault
 
 from .cli import ToolError, argument_parser, refuse_overwriting, warn
 
@@ -75,10 +75,8 @@ def parse_args() -> argparse.Namespace:
     options = parser.parse_args()
     if options.delimiter == options.decimal:
         parser.error("a comma is between fields too: give --delimiter, as ';'")
-    if not os.path.basename(options.out) or os.path.isdir(options.out):
-        parser.error("OUT is a prefix of files, as out/firm, and no folder")
-    if (prefix := ENDING.sub("", options.out)) != options.out:
-        parser.error(f"OUT is a prefix of files, as {prefix}, and {options.out} is the name of one")
+    if fault := prefix_fault(options.out):
+        parser.error(f"OUT {fault}")
     paths = Files(options.out)
     tables = [paths.nodes, paths.arcs, *paths.forms] if options.tables else []
     options.outputs = [paths.graph, *tables, paths.binary]
