@@ -42,11 +42,12 @@ def test_a_map_in_one_call(village, monkeypatch):
         *(("at_least", value, "isn't from 0 to 1") for value in (-0.1, 1.1)), ("longest_arc", "250", "longest_arc '250' is no"),
         *(("longest_arc", value, "isn't from 1 to 1000000") for value in (1_000_001, 0.5)),
         ("weight", ["time"], r"weight \['time'\] is no text"), ("attribution", None, "attribution None is no text"),
+        *((name, "no", f"{name} 'no' is neither True nor") for name in ("tables", "ignore_turn_restrictions", "keep_islands")),
     ]:
         with pytest.raises((domethyme.MapError, ValueError), match=says):
             domethyme.from_osm(VILLAGE, out.parent / "w", **{option: value})
-    for place in (out.parent, f"{out.parent}/w/", "", *(f"{out.parent}/w.{ending}" for ending in ("gr", "net", "rch"))):
-        with pytest.raises(ValueError, match=r"is a folder, or empty|as .*/w, and '.*/w\.(gr|net|rch)' the name of one"):
+    for place in (out.parent, f"{out.parent}/w/", "", *(f"{out.parent}/w.{ending}" for ending in ("gr", "net", "rch", "co", "nodes.csv"))):
+        with pytest.raises(ValueError, match=r"is a folder, or empty|as .*/w, and '.*/w\.[a-z.]+' the name of one"):
             domethyme.from_osm(VILLAGE, place)
     assert not list(out.parent.glob("w*"))
     with pytest.raises(domethyme.ProgramError, match="--order"):

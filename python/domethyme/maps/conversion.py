@@ -62,6 +62,9 @@ def options_of(words: Mapping[str, Any]) -> Options:
     for name in ("longest_arc", "at_least"):
         if not isinstance(getattr(options, name), numbers.Real):
             raise ValueError(f"{name} {getattr(options, name)!r} is no number")
+    for name in ("tables", "ignore_turn_restrictions", "keep_islands"):
+        if getattr(options, name) not in (True, False):
+            raise ValueError(f"{name} {getattr(options, name)!r} is neither True nor False")
     if not 1 <= options.longest_arc <= MAX_METRES:
         raise ValueError(f"longest_arc {options.longest_arc} isn't from 1 to {MAX_METRES}")
     if not 0 <= options.at_least <= 1:
@@ -173,6 +176,8 @@ def convert(
         if count / (count + report[OUTSIDE]) < least:
             share = f"{count} of {count + report[OUTSIDE]} nodes reach one another"
             raise MapError(f"{share}, less than {100 * least:g}%: is the map cut, or has it lost roads?", path)
+    if not len(network.start):
+        raise MapError("has no nodes that reach one another: are all roads of one way?", path)
     check_limits(len(network.node_osm), len(network.start), path)
     return network, read.rows_of
 
