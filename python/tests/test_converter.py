@@ -1,24 +1,18 @@
-"""Tests of the program by which osm_to_gr reads maps: how it is built, interrupted and fails; and of what comes of it."""
+"""Tests of the program by which osm_to_gr reads maps: how it is built, interrupted and fails; and of arrays by threads."""
 import os
 import random
 import shutil
 import signal
 import subprocess
 import time
-from unittest import mock
 
 import numpy as np
 import pytest
-from draws import converted, map_text
-from test_turns import relation
-from tool_case import IN_TABLES, PYTHON, SECONDS, TAKES_SIGNALS, VILLAGE, ToolCase
-
-import domethyme
+from tool_case import PYTHON, SECONDS, TAKES_SIGNALS, VILLAGE, ToolCase
 
 from domethyme.errors import MapError
 from domethyme.maps import conversion, map_arrays, road_network
-from domethyme.maps.vehicle_profile import read_profile
-from domethyme.network import figures, from_tables, net_file, parallel, table_files
+from domethyme.network import figures, parallel
 
 # A compiler that writes the program to the path behind -o
 BUILT = '#!/bin/sh\necho "$@" >words\nwhile [ "$1" != -o ]; do shift; done\ncp program "$2"\nchmod +x "$2"\n'
@@ -160,52 +154,6 @@ def test_a_network_that_is_too_large():
             conversion.check_limits(nodes, arcs, "map.osm")
 
 
-def arrays_of(path):
-    options = conversion.Options(longest_arc=120.0, keep_islands=True)
-    with map_arrays.folder_beside(str(path), lambda *told: None) as folder:
-        report = conversion.collections.Counter()
-        network, rows_of = conversion.convert(path, read_profile("car"), options, folder, report)
-        return road_network.to_arrays(network, "time", rows_of, "said", report)
-
-
-@pytest.mark.parametrize("seed", range(8))
-def test_drawn_maps(tmp_path, seed):
-    """The arrays of drawn maps are those that the tables' reader makes of them, however long the parts are that threads make."""
-    (tmp_path / "map.osm").write_text(drawn_map(seed))
-    arrays = arrays_of(tmp_path / "map.osm")
-    with open(tmp_path / "n.nodes.csv", "w") as nodes, open(tmp_path / "n.arcs.csv", "w") as arcs:
-        table_files.write_nodes(nodes, arrays)
-        table_files.write_arcs(arcs, arrays)
-    (tmp_path / "n.gr").write_text("c attribution: said\n")
-    wanted = from_tables.arrays_from_tables(str(tmp_path / "n"))
-    for name in IN_TABLES:
-        np.testing.assert_array_equal(getattr(arrays, name), getattr(wanted, name), name)
-        assert getattr(arrays, name).dtype == getattr(wanted, name).dtype, name
-    assert len(arrays.arc_from) > max(20, len(arrays.edge_begin) - 1)
-    files = []
-    for size in (parallel.SLICE_ROWS, 1, 7) if seed < 3 else ():
-        with mock.patch.object(parallel, "SLICE_ROWS", size), open(tmp_path / "map.net", "wb") as file:
-            net_file.write(file, arrays_of(tmp_path / "map.osm"))
-        files.append((tmp_path / "map.net").read_bytes())
-    assert files == files[:1] * len(files)
-
-
-def drawn_map(seed):
-    """A map of a few nodes that ways pass often, there and back, with names of all kinds and turn restrictions."""
-    draw, ways, relations = random.Random(seed), [], []
-    places = {node: (draw.randrange(9) / 1000, draw.randrange(9) / 1000) for node in range(1, 13)}
-    for _ in range(24):
-        nodes = [draw.randrange(1, 14) for _ in range(draw.randrange(2, 6))]
-        nodes += nodes[::-1] * (draw.random() < 0.2)
-        tags = {"highway": draw.choice(("residential", "primary")), "name": draw.choice(("A", " A\u2003 B\u00a0", "", "C"))}
-        tags.update({"ref": "1\t2"} if draw.random() < 0.5 else {}, **({"oneway": "yes"} if draw.random() < 0.2 else {}))
-        ways.append((nodes, tags))
-    for number in range(1, 30):
-        start, end, via = draw.randrange(1, 25), draw.randrange(1, 25), draw.randrange(1, 13)
-        relations.append(relation(number, start, via, end, {"restriction": draw.choice(("no_left_turn", "only_right_turn"))}))
-    return map_text(places, dict(enumerate(ways, 1)), "".join(relations))
-
-
 @pytest.mark.parametrize("count", [0, 1, 4, 5, 100])
 def test_parts_by_threads(monkeypatch, count):
     """Of arrays, of four numbers each."""
@@ -242,18 +190,3 @@ def test_rounding():
     amounts, penalty = np.array([0.2, 0.4, 1.5, 2.5, 1234.4]), np.array([0, 3, 0, 250, 1])
     assert figures.whole_weights(amounts, 10 * penalty).tolist() == [1, 31, 2, 2502, 1244]
     assert figures.seconds_of(amounts, penalty).tolist() == [0.0, 0.03, 0.002, 2.502, 1.244]
-
-
-@pytest.mark.parametrize("ends, longest, metres, lons", [
-    ([(179.998, 0), (-179.998, 0)], 250, [222.39] * 4, [-180, -179.998, 179.998]),
-    ([(-179.999, 0), (179.996, 0)], 120, [111.2] * 10, [-180, -179.999, 179.996, 179.997, 179.998, 179.999]),
-    ([(-0.001, 0), (0.001, "-0.0000001")], 200, [111.2] * 4, [-0.001, 0, 0.001]),
-])
-def test_where_a_road_is_cut(tmp_path, ends, longest, metres, lons):
-    """Across the 180th meridian; and zero has no sign."""
-    text = map_text(dict(enumerate(ends, 1)), {1: ((1, 2), {"highway": "road"})})
-    _, arcs = converted(tmp_path, text, "--weight", "length", "--longest-arc", longest, "--tables")
-    nodes = domethyme.Network(tmp_path / "map").nodes_frame()
-    found = [-180 if lon == 180 else lon for lon in nodes["lon"].tolist()]  # (one meridian)
-    assert (arcs["metres"].tolist(), sorted(found)) == (metres, lons)
-    assert "-0.0000000" not in (tmp_path / "map.nodes.csv").read_text()

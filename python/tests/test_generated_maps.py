@@ -19,72 +19,88 @@ from hypothesis import strategies as st
 from model.conversion import Arc, Map, Node, convert, largest, rules_of, split
 from model.network import Ambiguous
 from model.sphere import Point
-from model.vehicles import is_road, speeds
+from model.vehicles import duration, is_barrier, is_road, limit, speeds
 from test_profiles import BARRIERS, VEHICLES, tags_of, ways_of
 from tool_case import IN_TABLES, PYTHON
 
 import domethyme
 from domethyme.dimacs import read_graph
 from domethyme.errors import MapError
+from domethyme.maps import vehicle_profile
 from domethyme.network import from_tables, parallel
 from domethyme.network.columns import TEXTS
 
 # What tags of ways may be, beside those of test_profiles.
 ACCESS = ["yes", "no", "private", "destination", "delivery", "agricultural; forestry", "agricultural;yes", "bicycle", "dismount"]
-SPEEDS = ["50", " 30 mph ", "10 knots", "70.5kph", "none", "walk", "DE:urban", "RO:rural", "DE:zone:30", "NL:zone60", "signals", "0", "1001"]
-LIMITS = ["3.9", "4", "380 cm", "11'6\"", "13' 2\"", "4.1m", "default", "tall", "7.5 t", "39999 kg", "40 st", "88000 lbs", "0"]
+SPEEDS = """ 30 mph |45mph|10 knots|70.5kph|50 km/h|40kmh| 50 |none|walk|DE:urban|RO:rural|XY:rural|DE:zone:30|NL:zone60|DE:variable|
+    signals|-50|0|0.9|1|1000|1001""".replace("\n   ", "").split("|")
+LIMITS = """3.9|4|380 cm|11'6"|13' 1"|13'2"|12' 6.5"|12'|12.5 ft|4.1m|3,5|tall|7.5 t|39999 kg|40 st|45 st|39 lt|88000 lbs|700 cwt|0|
+    none|no|default|unsigned|no_sign|unspecified""".replace("\n    ", "").split("|")
 NAMES = {
     "name": ["High  Street", "\u2003", " =1+1 ", "Rue \u00e9"], "ref": ["B 1", " M2;E3", ""], "destination": ["X;Y ", ""],
-    "junction": [" yes  x", "roundabout"], "tunnel": ["no", "yes", "passage"], "bridge": ["viaduct", "no"], "toll": ["yes", "no", "hgv"],
+    "junction": [" yes  x"], "tunnel": ["no", "yes", "passage"], "bridge": ["viaduct", "no"], "toll": ["yes", "no", "hgv"],
 }
 TAGS = NAMES | {
     **dict.fromkeys(("access", "vehicle", "motor_vehicle", "motorcar", "hgv", "bicycle", "foot"), ACCESS),
     **dict.fromkeys(("maxspeed", "maxspeed:forward", "maxspeed:backward", "maxspeed:hgv", "maxspeed:hgv:backward"), SPEEDS),
     **dict.fromkeys(("maxheight", "maxwidth:physical", "maxlength", "maxweight", "maxweightrating:hgv", "maxaxleload"), LIMITS),
-    **dict.fromkeys(("oneway", "oneway:bicycle", "oneway:foot"), ["yes", "true", "1", "-1", "reverse", "no", "reversible", "alternating"]),
+    **dict.fromkeys(("oneway", "oneway:bicycle", "oneway:foot"), "yes true 1 -1 reverse no reversible alternating".split()),
     "junction": ["roundabout", "circular"], "area": ["yes", "no"], "surface": ["gravel", "mud", "asphalt", "sand"],
     "cycleway": ["opposite", "lane"], "cycleway:left:oneway": ["-1", "yes"], "motorroad": ["yes", "no"], "route": ["ferry", "bus"],
 }
-DURATIONS = ["3", "0", "1:30", " 00:02:30", "PT2M5S", "PT1H", "PT", "P1D", "12345", "1:60", "1:2", "900:00:00"]
-TURNS = ["restriction=no_left_turn", "restriction=only_right_turn", "restriction=no_u_turn", "restriction=stop", "restriction:hgv=no_entry",
-         "restriction=no_exit except=bicycle", "restriction=only_u_turn except=x;~motor_vehicle", "restriction:foot=no_left_turn",
-         "restriction:conditional=no_left_turn", "restriction:motorcar=give_way restriction=no_entry", "type=route restriction=no_entry"]
+PAIRS = [(key, value) for key, values in TAGS.items() for value in values]
+PAIRS += [(key, value) for tags in (tags_of(row[0]) for row in BARRIERS) for key, value in tags.items() if key == "barrier"]
+PAIRS += [("highway", kind) for kind in "motorway trunk residential footway cycleway service construction ferry".split()]
+DURATIONS = ["1:30", "0:07", " 00:02:30", "100:00:01", "PT2M5S", "PT1H", "3", "0", "PT", "P1D", "12345", "1:60", "1:2"]
+TURNS = """restriction=no_left_turn|restriction=only_right_turn|restriction=no_u_turn|restriction=stop|restriction:hgv=no_entry|
+    restriction=no_exit except=bicycle|restriction=only_u_turn except=x;~motor_vehicle|restriction:foot=no_left_turn|
+    restriction:conditional=no_left_turn|restriction:motorcar=give_way restriction=no_entry|restriction:bicycle=no_u_turn|
+    restriction:motor_vehicle=no_straight_on|type=route restriction=no_entry""".split("|")
 # Members that a profile may have in place of its own.
 MEMBERS = {
     "turns": [{"left": 500, "right": 200, "back": 2000}, {"left": 0, "right": 0}, {"back": 1}], "driving_side": ["left", "right"],
-    "mode": ["driving", "walking"], "fastest": [20, 60.5], "surfaces": [{"mud": 4}], "measures": [{"maxheight": 4, "maxweight": 7.5}],
+    "mode": ["driving", "walking"], "fastest": [20, 60.5], "surfaces": [{"mud": 4}], "barriers": [["gate"]],
     "closed_by": [["motorroad=yes"], []], "only_where_allowed": [["primary"]], "both_ways": [["cycleway=opposite"]],
-    "oneway": [["oneway", "oneway:foot"]], "restrictions": [["restriction:foot", "restriction:hgv"]], "oneway_highways": [["primary"]],
+    "oneway": [["oneway", "oneway:foot"]], "restrictions": [["restriction:foot", "restriction:hgv"]],
     "maxspeed": [["maxspeed:hgv", "maxspeed"], []], "maxspeed_words": [{"*:urban": 44, "DE:urban": 45.5, "signals": 10}],
-    "barriers": [["gate"]],
+    "measures": [{"maxheight": 4, "maxweight": 7.5}], "oneway_highways": [["primary"]],
 }
 
 
 @st.composite
+def profiles(draw: Any) -> dict[str, Any]:
+    """The members of a profile."""
+    path = PYTHON / f"domethyme/maps/profiles/{draw(st.sampled_from(VEHICLES))}.json"
+    names = draw(st.sets(st.sampled_from([*["turns"] * 4, *sorted(MEMBERS)]), max_size=3))
+    return json.loads(path.read_text(encoding="utf-8")) | {name: draw(st.sampled_from(MEMBERS[name])) for name in sorted(names)}
+
+
+@st.composite
 def maps(draw: Any) -> Map:
-    """A map of ways that meet, pass barriers and the same nodes again, name nodes that it lacks, and are cut at nodes; some of which
-    vehicles may not take."""
-    origin, first = draw(st.sampled_from([ORIGINS[0], ORIGINS[1], (0.0, 0.0003)])), draw(st.sampled_from([1, -40, 1 << 33, (1 << 62) + 1]))
-    step = draw(st.sampled_from([st.integers(-40, 40), st.integers(-2, 2).map(lambda number: 20 * number)]))
+    """A map of ways that meet, pass barriers and the same nodes again, name nodes that it lacks, and are cut at nodes."""
+    origin, first = draw(st.sampled_from([*ORIGINS[:2], (0.0, 0.0003)])), draw(st.sampled_from([1, -40, 1 << 33, (1 << 62) + 1]))
+    few = st.integers(-2, 2)
+    step = draw(st.sampled_from([st.integers(-40, 40), few.map(lambda number: 20 * number), few.map(lambda number: number / 1000)]))
     steps = draw(st.lists(st.tuples(step, step, st.sampled_from([0, 0, 1e-7, -3e-7])), min_size=2, max_size=9))
     lons = (origin[0] + east * 1e-4 / math.cos(math.radians(origin[1])) for east, *_ in steps)
     places = [(math.remainder(lon, 360), origin[1] + north * 1e-4 + more) for lon, (_, north, more) in zip(lons, steps)]
     barriers = st.one_of(st.just({}), st.just({}), st.just({}), st.sampled_from([tags_of(row[0]) for row in BARRIERS]))
     nodes = {number: ((round(lon, 7), round(lat, 7)), draw(barriers)) for number, (lon, lat) in enumerate(places, first)}
     refs = st.lists(st.sampled_from([*nodes, first + len(nodes)]), min_size=1, max_size=6)
-    ends, kinds = st.lists(st.sampled_from([*nodes]), min_size=2, max_size=3), [tags_of(text) for name in VEHICLES for text, *_ in ways_of(name)]
-    ways, relations = {}, []
+    ends, ways, relations = st.lists(st.sampled_from([*nodes]), min_size=2, max_size=3), {}, []
+    kinds = [tags_of(text) for name in VEHICLES for text, *_ in ways_of(name)]
     for way in range(draw(st.integers(1, 9))):
         tags: dict[str, str] = {"highway": draw(st.sampled_from(["residential", "primary", "tertiary"]))}
         kind = draw(st.sampled_from(["plain", "plain", "more", "more", "texts", "page", "ferry"]))
         tags = {"ferry": {"route": "ferry"}, "page": tags | draw(st.sampled_from(kinds))}.get(kind, tags)
-        texts = {"plain": {}, "texts": NAMES, "ferry": {"duration": DURATIONS, "name": ["Boat"]}}.get(kind, TAGS)
-        keys = draw(st.lists(st.sampled_from([*texts]), max_size=5)) if texts else []
+        texts = {"plain": {}, "texts": NAMES, "ferry": {"duration": DURATIONS}}.get(kind, TAGS)
+        keys = draw(st.lists(st.sampled_from([*texts]), min_size=kind == "ferry", max_size=5)) if texts else []
         ways[first + way] = draw(st.one_of(refs, ends)), tags | {key: draw(st.sampled_from(texts[key])) for key in keys}
     for _ in range(draw(st.sampled_from([0, 1, 3, 6]))):
         via = draw(st.sampled_from([*nodes]))
         near = [way for way, (line, _) in ways.items() if via in (line[0], line[-1])] or [*ways]
-        some = [("w", draw(st.sampled_from(near)), "from"), ("n", via, "via"), ("w", draw(st.sampled_from([*near * 3, first + 30])), "to")]
+        start, stop = draw(st.sampled_from(near)), draw(st.sampled_from([*near * 3, first + 30]))
+        some = [("w", start, "from"), ("n", via, "via"), ("w", stop, "to")]
         more = ("w", near[0], "from"), ("n", via, "to"), ("n", via, "via"), ("w", via, "where"), ("w", via, "via")
         some += draw(st.sampled_from([[], [], [], *([member] for member in more)]))
         some = some[:1] + some[2:] if draw(st.integers(0, 20)) == 0 else some
@@ -94,16 +110,18 @@ def maps(draw: Any) -> Map:
 
 def xml_of(made: Map, is_turned: bool) -> str:
     """The text of a map; turned round, its nodes come last."""
-    def element(name: str, number: int, inner: Sequence[str], tags: Any, more: str = "") -> str:
-        text = [f"<tag k={quoteattr(key)} v={quoteattr(value)}/>" for key, value in tags.items()]
-        return f"<{name} id='{number}'{more}>{''.join(inner)}{''.join(text)}</{name}>"
+    def element(name: str, number: int, tags: Any, more: str = "", inner: str = "") -> str:
+        text = "".join(f"<tag k={quoteattr(key)} v={quoteattr(value)}/>" for key, value in tags.items())
+        return f"<{name} id='{number}'{more}>{inner}{text}</{name}>"
 
     kinds = {"w": "way", "n": "node"}
-    nodes = [element("node", node, [], tags, f" lon='{lon:.7f}' lat='{lat:.7f}'") for node, ((lon, lat), tags) in made.nodes.items()]
-    lines = [element("way", way, [f"<nd ref='{ref}'/>" for ref in refs], tags) for way, (refs, tags) in made.ways.items()]
+    nodes = [element("node", node, tags, f" lon='{lon:.7f}' lat='{lat:.7f}'") for node, ((lon, lat), tags) in made.nodes.items()]
+    lines = []
+    for way, (refs, tags) in made.ways.items():
+        lines.append(element("way", way, tags, inner="".join(f"<nd ref='{ref}'/>" for ref in refs)))
     for number, (tags, members) in enumerate(made.relations):
-        rows = [f"<member type='{kinds[kind]}' ref='{ref}' role='{role}'/>" for kind, ref, role in members]
-        lines.append(element("relation", number, rows, tags))
+        rows = (f"<member type='{kinds[kind]}' ref='{ref}' role='{role}'/>" for kind, ref, role in members)
+        lines.append(element("relation", number, tags, inner="".join(rows)))
     return f"<osm version='0.6'>{''.join(lines + nodes[::-1] if is_turned else nodes + lines)}</osm>"
 
 
@@ -135,14 +153,28 @@ def wkt(line: Sequence[Point]) -> str:
 
 
 @drawn(150)
+@given(profiles(), st.lists(st.lists(st.sampled_from(PAIRS), max_size=5), min_size=20, max_size=20), st.sampled_from(DURATIONS))
+def test_rules(members: dict[str, Any], rows: list[list[tuple[str, str]]], text: str) -> None:
+    """Of ways, barriers and limits, by the tags that are read."""
+    profile = vehicle_profile.validate_profile(dict(members), "own.json")
+    for row in rows:
+        tags = {"highway": "primary", **dict(row)}
+        found = vehicle_profile.judge({key: tags[key] for key in vehicle_profile.way_keys(profile) if key in tags}, profile)
+        assert (found.refusal or [found.forward, found.backward]) == speeds(tags, members), (tags, members)
+        assert vehicle_profile.blocks_way(tags, profile) == is_barrier(tags, members), (tags, members)
+        for key, value in tags.items() & {pair for pair in PAIRS if pair[1] in LIMITS}:
+            assert vehicle_profile.limit_of(key, value) == limit(key, value)
+    for kind in ("ferry", "primary"):
+        tags = {"highway": kind, "duration": text}
+        assert np.nan_to_num(vehicle_profile.seconds_of(tags)) == duration(tags)
+
+
+@drawn(150)
 @given(st.data())
 def test_networks(data: Any) -> None:
-    """By any profile, with and without islands, however long the parts are that threads make; what is said of them; and the file has the
+    """By any profile, with and without islands, however long the parts are that threads make; and what is said. The file has the
     arrays that the reader of tables makes."""
-    made, vehicle = data.draw(maps()), data.draw(st.sampled_from(VEHICLES))
-    profile = json.loads((PYTHON / f"domethyme/maps/profiles/{vehicle}.json").read_text(encoding="utf-8"))
-    for name in data.draw(st.sets(st.sampled_from([*["turns"] * 4, *sorted(MEMBERS)]), max_size=3)):
-        profile[name] = data.draw(st.sampled_from(MEMBERS[name]))
+    made, profile = data.draw(maps()), data.draw(profiles())
     weight, longest = data.draw(st.sampled_from(["time", "length"])), data.draw(st.sampled_from([90, 250, 2000]))
     ignore, islands, rows = data.draw(st.integers(0, 3)) == 0, data.draw(st.booleans()), data.draw(st.sampled_from([1, 7, 1 << 16]))
     try:
@@ -151,6 +183,7 @@ def test_networks(data: Any) -> None:
         return
     rules, others = rules_of(made, profile)
     arcs = split(nodes, arcs, {} if ignore else rules, profile.get("turns", {}))
+    candidates = [(nodes, arcs)] if islands else [*largest(nodes, arcs)]
     words = ["--weight", weight, "--longest-arc", longest, *["--ignore-turn-restrictions"] * ignore, *["--keep-islands"] * islands]
     with tempfile.TemporaryDirectory() as name, mock.patch.object(parallel, "SLICE_ROWS", rows):
         out = pathlib.Path(name, "map")
@@ -159,24 +192,26 @@ def test_networks(data: Any) -> None:
         try:
             said = run_tool("osm_to_gr", f"{out}.osm", out, "--profile", f"{out}.json", "--tables", *words)[1]
         except MapError as error:
-            assert "has no road that the profile takes" in str(error) and not arcs
+            assert ("has no nodes that reach one another" if arcs else "has no road that the profile takes") in str(error)
+            assert not arcs or not islands and not all(some for _, some in candidates)
             return
         network, graph, of_tables = domethyme.Network(out), read_graph(f"{out}.gr"), from_tables.arrays_from_tables(str(out))
         found, arrays = rows_of_file(network), network.arrays
         for each in IN_TABLES:
             np.testing.assert_array_equal(getattr(arrays, each)[:], getattr(of_tables, each), each, strict=True)
-    assert [*zip(graph.starts, graph.ends, graph.weights)] == [row[:3] for row in found["arcs"]] and graph.nodes == len(found["nodes"])
-    candidates = [(nodes, arcs)] if islands else largest(nodes, arcs)
+    assert graph.nodes == len(found["nodes"])
+    assert [*zip(graph.starts, graph.ends, graph.weights)] == [row[:3] for row in found["arcs"]]
     fits = [each for each in candidates if rows_of(*each, weight) == found]
     assert fits, difference(found, rows_of(*candidates[0], weight))
     assert (arrays.driving_side, arrays.mode) == (profile.get("driving_side", "right"), profile.get("mode", "driving"))
     refused = (speeds({"highway": "ferry", **tags}, profile) for _, tags in made.ways.values() if is_road(tags, profile))
     counts = Counter(reason for reason in refused if isinstance(reason, str))
-    counts |= {f"turn restrictions {what}": 0 if ignore and what.endswith(("left out", "the node")) else count for what, count in others.items()}
+    for what, count in others.items():
+        counts[f"turn restrictions {what}"] = 0 if ignore and what.endswith(("left out", "the node")) else count
     counts["nodes outside the largest strongly connected component"] = len(nodes) - len(found["nodes"])
     counts["weights raised to 1"] = sum(amount_of(arc, weight) <= 0.5 for arc in fits[0][1])
-    has_penalties = any(profile.get("turns", {}).values())
-    counts["nodes split by turns" if has_penalties else "junctions split by turn restrictions"] = sum(node.ends == "from" for node in nodes)
+    split_by = "nodes split by turns" if any(profile.get("turns", {}).values()) else "junctions split by turn restrictions"
+    counts[split_by] = sum(node.ends == "from" for node in nodes)
     for what in {*counts, *re.findall("(?:ways left out (?:by|as)|turn restrictions) .*(?=:)", said)}:
         assert (f"osm_to_gr: {what}: {counts[what]}\n" in said) == (f": {what}: " in said) == (counts[what] > 0), (said, counts)
     metres = {arc.piece: arc.metres for arc in fits[0][1]}.values()

@@ -1,16 +1,11 @@
-"""Tests of the profiles of vehicles, of the members that a profile may have, and of penalties of turns."""
+"""Tests of the profiles of vehicles, and of the members that a profile may have."""
 import json
 import math
 import re
 
 import pytest
-from draws import converted, map_text
-from test_turns import STEP, crossing
-
-import domethyme
 from domethyme.errors import MapError
-from domethyme.maps.turn_restrictions import Member, restrictions_of
-from domethyme.maps.vehicle_profile import PROFILES, blocks_way, judge, limit_of, read_profile, way_keys
+from domethyme.maps.vehicle_profile import PROFILES, blocks_way, judge, read_profile, way_keys
 
 CAR = json.loads((PROFILES / "car.json").read_text(encoding="utf-8"))
 del CAR["about"]
@@ -19,22 +14,12 @@ VEHICLES = ("car", "lorry", "bicycle", "foot")
 # is named. A ~ is a blank.
 WAYS = {
     "car": """
-        70 70: oneway=no, oneway=alternating, junction=roundabout oneway=no, junction=yes, maxspeed=DE:variable, maxspeed=0,
-        maxspeed=1001, maxspeed=-50, access=permissive, access=destination, access=customers, access=no vehicle=yes,
-        vehicle=no motor_vehicle=yes, motor_vehicle=no motorcar=yes, motor_vehicle=agricultural;destination,
-        motor_vehicle:conditional=no~@~(22:00-06:00) |
-        - -: highway=service area=yes, highway=construction construction=primary, highway=track motorcar=yes, oneway=reversible,
-        access=no, access=private, access=yes vehicle=no, vehicle=yes motor_vehicle=private, motor_vehicle=yes motorcar=no,
-        access=yes vehicle=yes motor_vehicle=yes motorcar=private, access=no bicycle=yes, motor_vehicle=forestry,
-        motor_vehicle=agricultural;forestry, motor_vehicle=forestry;~private |
-        70 -: oneway=yes, oneway=true, oneway=1, junction=roundabout, junction=circular, oneway=yes maxspeed:backward=40 |
-        50 50: maxspeed=50~km/h, maxspeed=50kmh, maxspeed=50~kph, maxspeed=DE:urban, maxspeed=RO:urban, maxspeed=~50~ |
-        - 70: oneway=-1, oneway=reverse, junction=roundabout oneway=-1 | 30 30: highway=residential, maxspeed=DE:zone:30 |
-        60 60: highway=motorway_link, maxspeed=NL:zone60 | 110 -: highway=motorway | 110 110: highway=motorway oneway=no |
-        10 10: highway=living_street | 15 15: highway=service area=no | 80 80: maxspeed=80 | 57.5 57.5: maxspeed=57.5 |
-        72.42048 72.42048: maxspeed=45mph | 8.04672 8.04672: maxspeed=5~mph | 18.52 18.52: maxspeed=10~knots |
-        130 130: maxspeed=none | 7 7: maxspeed=walk | 100 100: maxspeed=DE:rural | 90 90: maxspeed=XY:rural | 1 1: maxspeed=1 |
-        1000 1000: maxspeed=1000 | 40 70: maxspeed:forward=40 | 60 32.18688: maxspeed=60 maxspeed:backward=20~mph
+        110 -: highway=motorway | 60 60: highway=motorway_link | 30 30: highway=residential | 10 10: highway=living_street |
+        15 15: highway=service area=no | 130 130: maxspeed=none | 7 7: maxspeed=walk | 50 50: maxspeed=RO:urban |
+        100 100: maxspeed=DE:rural | 90 90: maxspeed=XY:rural | 70 70: access=permissive, access=destination, access=customers,
+        motor_vehicle=agricultural;destination, access=no vehicle=yes, vehicle=no motor_vehicle=yes, motor_vehicle=no motorcar=yes |
+        - -: highway=construction, highway=track motorcar=yes, access=private, motor_vehicle=forestry;~private,
+        access=no bicycle=yes, vehicle=no, access=yes motorcar=no | 70 -: junction=roundabout, junction=circular
     """,
     "lorry": """
         60 60: highway=primary, hgv=destination, hgv=delivery, motor_vehicle=no hgv=yes, motorcar=no, bicycle=no, maxheight=4,
@@ -74,7 +59,8 @@ BARRIERS = [
     ("barrier=gate access=private foot=yes", "car lorry bicycle"), ("barrier=stile", "car lorry bicycle"),
     ("barrier=wall", "car lorry bicycle foot"), ("barrier=toll_booth", ""), ("barrier=gate access=no", "car lorry bicycle foot"),
     ("barrier=gate access=private motor_vehicle=yes", "bicycle foot"), ("barrier=bollard access=yes motorcar=no", "car"),
-    ("barrier=bollard access=yes", ""), ("barrier=bollard bicycle=yes", "car lorry"), ("access=private", ""), ("highway=crossing", ""),
+    ("barrier=bollard access=yes", ""), ("barrier=bollard bicycle=yes", "car lorry"), ("access=private", ""),
+    ("highway=crossing", ""),
 ]
 
 
@@ -103,30 +89,6 @@ def test_ways(vehicle):
 @pytest.mark.parametrize("text, parted", BARRIERS)
 def test_barriers(text, parted):
     assert parted.split() == [name for name in VEHICLES if blocks_way(tags_of(text), read_profile(name))]
-
-
-@pytest.mark.parametrize("text, bound", [
-    ("restriction=no_left_turn", "car lorry bicycle"), ("restriction=no_left_turn except=bicycle", "car lorry"),
-    ("restriction=no_left_turn except=psv;~motor_vehicle", "bicycle"), ("restriction:hgv=no_left_turn", "lorry"),
-    ("restriction:bicycle=no_left_turn", "bicycle"), ("restriction:foot=no_left_turn", "foot"),
-    ("restriction:motor_vehicle=no_left_turn", "car lorry"),
-])
-def test_turn_restrictions(text, bound):
-    members, tags = [Member("w", 1, "from"), Member("n", 2, "via"), Member("w", 3, "to")], {"type": "restriction", **tags_of(text)}
-    profiles = {name: read_profile(name) for name in VEHICLES}
-    found = [name for name, each in profiles.items() if restrictions_of(tags, members, each.access, each.restrictions)[0]]
-    assert found == bound.split()
-
-
-@pytest.mark.parametrize("key, text, wanted", [
-    ("maxheight", "3.5", 3.5), ("maxheight", " 3.5 m", 3.5), ("maxheight", "11'6\"", 3.5052), ("maxheight", "11' 6.5\"", 3.5179),
-    ("maxheight", "12'", 3.6576), ("maxheight", "12 ft", 3.6576), ("maxheight", "3,5", None), ("maxheight", "3.5 t", None),
-    *(("maxheight", word, math.inf) for word in ("none", "no", "default", "unsigned", "no_sign", "unspecified")),
-    ("maxweight", "3.5 t", 3.5), ("maxweight", "3.5 m", None), ("maxaxleload", "8", 8), ("maxweight", "10 lt", 10.160469088),
-    ("maxweight", "22000 lbs", 9.97903214), ("maxweight", "100 cwt", 5.080234544),
-])
-def test_limits(key, text, wanted):
-    assert limit_of(key, text) == (wanted and pytest.approx(wanted, abs=1e-9))
 
 
 def test_each_profile_is_listed():
@@ -174,37 +136,3 @@ def test_members_at_their_bounds(tmp_path):
     profile = read_profile(str(own(tmp_path, turns={"left": 360_000, "right": 0}, **bounds)))
     assert profile.turns == {"left": 360_000, "right": 0}
     assert [judge({"highway": "primary", "surface": surface}, profile).forward for surface in ("mud", "asphalt")] == [1, 1]
-
-
-def test_restrictions_of_the_profile(tmp_path):
-    """To the node of who may not go on everywhere leads the way from the west, but on foot that from the north."""
-    text, found = crossing((2, 3, {"restriction": "no_left_turn"}), (3, 4, {"restriction:foot": "no_left_turn"})), {}
-    for profile in ("car", "foot", "bicycle"):
-        said, arcs = converted(tmp_path, text, "--profile", profile)
-        assert "junctions split by turn restrictions: 1\n" in said
-        nodes = domethyme.Network(tmp_path / "map").nodes_frame()
-        found[profile] = set(arcs["osm"][arcs["to"].isin(nodes.index[nodes["ends"] == "no"])])
-    assert found == {"car": {2}, "foot": {3}, "bicycle": {2}}
-
-
-def test_penalties_at_a_crossing(tmp_path):
-    """Of a turn left, right and back, in milliseconds of a way of STEP and in seconds, also where restrictions are ignored; lengths
-    have none."""
-    text = crossing((2, 3, {"restriction": "no_left_turn"}))
-    words = "--ignore-turn-restrictions", "--profile", own(tmp_path, turns={"left": 500, "right": 200, "back": 2000})
-    said, arcs = converted(tmp_path, text, *words)
-    assert "osm_to_gr: nodes split by turns: 5\n" in said
-    assert {*(arcs["weight"] - STEP)} == {0, 2000, 5000, 20000} and (round(1000 * arcs["seconds"]) == arcs["weight"]).all()
-    plain, lengths = ({*converted(tmp_path, text, "--weight", "length", *some)[1]["weight"]} for some in ((), words))
-    assert plain == lengths and len(plain) == 1
-
-
-def test_a_bend_is_no_turn_and_a_hairpin_is_one(tmp_path):
-    """Of a road of three ways over the 180th meridian: at 2 it bends by 40 degrees, at 3 it turns by 100 degrees to the right."""
-    places = {1: (179.9995, 0), 2: (-179.9995, 0), 3: (-179.998734, "0.000643"), 4: (-179.998234, "-0.000223")}
-    ways = {node: ((node, node + 1), {"highway": "residential", "oneway": "yes"}) for node in (1, 2, 3)}
-    profile = own(tmp_path, turns={"left": 0, "right": 200})
-    arcs = converted(tmp_path, map_text(places, ways), "--keep-islands", "--profile", profile)[1]
-    plain = 111195.08 * 3600 / 30 / 1000
-    found = {(osm, round((weight - plain) / 1000)) for osm, weight in zip(arcs["osm"], arcs["weight"])}
-    assert found == {(1, 0), (2, 0), (3, 0), (3, 2)}

@@ -284,7 +284,7 @@ def seconds_of(tags: Tags) -> float:
     if plain := DURATION.fullmatch(text):
         numbers = [int(each) for each in text.split(":")]
         hours, minutes, seconds = [0, *numbers, 0] if len(numbers) == 1 else [*numbers, 0][:3]
-    elif (plain := ISO_DURATION.fullmatch(text)) and text[-1:] not in ("T", "P"):
+    elif plain := ISO_DURATION.fullmatch(text):
         hours, minutes, seconds = (int(each or 0) for each in plain.groups())
     else:
         return math.nan

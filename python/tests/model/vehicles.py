@@ -81,7 +81,8 @@ def speeds(tags: Tags, profile: Any) -> list[float | None] | str:
 
 def duration(tags: Tags) -> int:
     """The seconds of a ferry, 0 for none that is known, and for other ways."""
-    forms = r"()([0-9]{1,4})()", r"([0-9]{1,3}):([0-5][0-9])(?::([0-5][0-9]))?", r"PT(?:([0-9]{1,3})H)?(?:([0-9]{1,4})M)?(?:([0-9]{1,4})S)?"
+    iso = r"PT(?:([0-9]{1,3})H)?(?:([0-9]{1,4})M)?(?:([0-9]{1,4})S)?"
+    forms = r"()([0-9]{1,4})()", r"([0-9]{1,3}):([0-5][0-9])(?::([0-5][0-9]))?", iso
     text = tags.get("duration", "").strip() if tags["highway"] == "ferry" else ""
     found = next(filter(None, (re.fullmatch(form, text) for form in forms)), None)
     return sum(int(part or 0) * unit for part, unit in zip(found.groups(), (3600, 60, 1))) if found else 0
