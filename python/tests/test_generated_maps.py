@@ -32,8 +32,8 @@ from domethyme.network.columns import TEXTS
 
 # What tags of ways may be, beside those of test_profiles.
 ACCESS = ["yes", "no", "private", "destination", "delivery", "agricultural; forestry", "agricultural;yes", "bicycle", "dismount"]
-SPEEDS = """ 30 mph |45mph|10 knots|70.5kph|50 km/h|40kmh| 50 |none|walk|DE:urban|RO:rural|XY:rural|DE:zone:30|NL:zone60|DE:variable|
-    signals|-50|0|0.9|1|1000|1001""".replace("\n   ", "").split("|")
+SPEEDS = """ 30 mph |45mph|10 knots|70.5kph|50 km/h|40kmh| 50 |none|walk|DE:urban|RO:rural|XY:rural|DE:zone:30|NL:zone60|
+    DE:variable|signals|-50|0|0.9|1|1000|1001""".replace("\n    ", "").split("|")
 LIMITS = """3.9|4|380 cm|11'6"|13' 1"|13'2"|12' 6.5"|12'|12.5 ft|4.1m|3,5|tall|7.5 t|39999 kg|40 st|45 st|39 lt|88000 lbs|700 cwt|0|
     none|no|default|unsigned|no_sign|unspecified""".replace("\n    ", "").split("|")
 NAMES = {
@@ -43,7 +43,7 @@ NAMES = {
 TAGS = NAMES | {
     **dict.fromkeys(("access", "vehicle", "motor_vehicle", "motorcar", "hgv", "bicycle", "foot"), ACCESS),
     **dict.fromkeys(("maxspeed", "maxspeed:forward", "maxspeed:backward", "maxspeed:hgv", "maxspeed:hgv:backward"), SPEEDS),
-    **dict.fromkeys(("maxheight", "maxwidth:physical", "maxlength", "maxweight", "maxweightrating:hgv", "maxaxleload"), LIMITS),
+    **dict.fromkeys(("maxheight", "maxwidth", "maxlength", "maxbogieweight", "maxweightrating:hgv", "maxaxleload"), LIMITS),
     **dict.fromkeys(("oneway", "oneway:bicycle", "oneway:foot"), "yes true 1 -1 reverse no reversible alternating".split()),
     "junction": ["roundabout", "circular"], "area": ["yes", "no"], "surface": ["gravel", "mud", "asphalt", "sand"],
     "cycleway": ["opposite", "lane"], "cycleway:left:oneway": ["-1", "yes"], "motorroad": ["yes", "no"], "route": ["ferry", "bus"],
@@ -63,7 +63,7 @@ MEMBERS = {
     "closed_by": [["motorroad=yes"], []], "only_where_allowed": [["primary"]], "both_ways": [["cycleway=opposite"]],
     "oneway": [["oneway", "oneway:foot"]], "restrictions": [["restriction:foot", "restriction:hgv"]],
     "maxspeed": [["maxspeed:hgv", "maxspeed"], []], "maxspeed_words": [{"*:urban": 44, "DE:urban": 45.5, "signals": 10}],
-    "measures": [{"maxheight": 4, "maxweight": 7.5}], "oneway_highways": [["primary"]],
+    "measures": [{"maxheight": 4, "maxbogieweight": 7.5}], "oneway_highways": [["primary"]],
 }
 
 
@@ -79,11 +79,12 @@ def profiles(draw: Any) -> dict[str, Any]:
 def maps(draw: Any) -> Map:
     """A map of ways that meet, pass barriers and the same nodes again, name nodes that it lacks, and are cut at nodes."""
     origin, first = draw(st.sampled_from([*ORIGINS[:2], (0.0, 0.0003)])), draw(st.sampled_from([1, -40, 1 << 33, (1 << 62) + 1]))
-    few = st.integers(-2, 2)
-    step = draw(st.sampled_from([st.integers(-40, 40), few.map(lambda number: 20 * number), few.map(lambda number: number / 1000)]))
-    steps = draw(st.lists(st.tuples(step, step, st.sampled_from([0, 0, 1e-7, -3e-7])), min_size=2, max_size=9))
-    lons = (origin[0] + east * 1e-4 / math.cos(math.radians(origin[1])) for east, *_ in steps)
-    places = [(math.remainder(lon, 360), origin[1] + north * 1e-4 + more) for lon, (_, north, more) in zip(lons, steps)]
+    # (in units of a degree, 8 of which are a step, so that few cuts are between two of them)
+    step, grain = draw(st.sampled_from([(st.integers(-40, 40), 1000), (st.integers(-2, 2), 20_000)]))
+    steps = draw(st.lists(st.tuples(step, step, st.sampled_from([0, 0, 8])), min_size=2, max_size=9))
+    wide = grain / math.cos(math.radians(origin[1])) / 8
+    units = [(8 * round(wide * east), north * grain + more) for east, north, more in steps]
+    places = [(math.remainder(origin[0] + east * 1e-7, 360), origin[1] + north * 1e-7) for east, north in units]
     barriers = st.one_of(st.just({}), st.just({}), st.just({}), st.sampled_from([tags_of(row[0]) for row in BARRIERS]))
     nodes = {number: ((round(lon, 7), round(lat, 7)), draw(barriers)) for number, (lon, lat) in enumerate(places, first)}
     refs = st.lists(st.sampled_from([*nodes, first + len(nodes)]), min_size=1, max_size=6)
@@ -169,7 +170,7 @@ def test_rules(members: dict[str, Any], rows: list[list[tuple[str, str]]], text:
         assert np.nan_to_num(vehicle_profile.seconds_of(tags)) == duration(tags)
 
 
-@drawn(150)
+@drawn(100)
 @given(st.data())
 def test_networks(data: Any) -> None:
     """By any profile, with and without islands, however long the parts are that threads make; and what is said. The file has the

@@ -189,6 +189,13 @@ def said_of(folder, *ways, profile="car"):
     return converted(folder, map_text({1: (0, 0), 2: (0.001, 0)}, named), "--profile", profile)[0].splitlines()
 
 
+def test_weights_raised(tmp_path):
+    """Of roads of 1.1 cm, 0.31 ms at 130 km/h and 0.8 ms at 50: those that would be 0."""
+    ways = {way: ((1, 2), {"highway": "primary", "maxspeed": speed}) for way, speed in enumerate(("none", "50"), 1)}
+    said, arcs = converted(tmp_path, map_text({1: (0, 0), 2: (0, "0.0000001")}, ways))
+    assert said.startswith("osm_to_gr: weights raised to 1: 2\n") and arcs["weight"].tolist() == [1] * 4
+
+
 def test_what_is_said_of_tags(tmp_path):
     """Ten of the values that aren't understood, the most frequent first; and of rules that aren't looked at the ways, once."""
     for count, more in ((10, ""), (11, ", ...")):

@@ -197,7 +197,7 @@ def limit_of(key: str, text: str) -> float | None:
     """The metres or tonnes of a limit, infinite where there is none, or None where it isn't understood."""
     if (text := text.strip()) in NO_LIMIT:
         return math.inf
-    is_weight = key.startswith(("maxweight", "maxaxleload"))
+    is_weight = "weight" in key or "axleload" in key
     if not is_weight and (feet := FEET.fullmatch(text)):
         return (float(feet[1]) + float(feet[2] or 0) / 12) * MEASURES["ft"]
     found = (WEIGHT if is_weight else LENGTH).fullmatch(text)
