@@ -141,7 +141,7 @@ def refused(folder):
     return lambda source, *words, says: assert_refused("osm_to_gr", source, "out", *words, says=says)
 
 
-@pytest.mark.parametrize("source, text, says", BAD_MAPS)
+@pytest.mark.parametrize("source, text, says", BAD_MAPS, ids=[source for source, *_ in BAD_MAPS])
 def test_bad_maps(folder, refused, source, text, says):
     if text is not None:
         (folder / source).write_bytes(text.encode() if isinstance(text, str) else text)
