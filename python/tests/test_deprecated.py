@@ -40,7 +40,7 @@ OLD_NAMES = [
     ("NotShown", "NotProved", lambda hierarchy: domethyme.NotShown is domethyme.NotProved),
     ("errors.NotShown", "NotProved", lambda hierarchy: domethyme.errors.NotShown is domethyme.NotProved),
     ("of_keys", "from_keys", lambda hierarchy: domethyme.Graph.of_keys("ab", "ba", [1, 2]).nodes == 2),
-    ("of_frame", "from_frame", lambda hierarchy: domethyme.Graph.of_frame(FRAME).weights.tolist() == [1, 2]),
+    ("of_frame", "from_frame", lambda hierarchy: domethyme.Graph.of_frame(FRAME, scale=10).weights.tolist() == [10, 20]),
     ("Keys.saved", "Keys.load", lambda hierarchy: domethyme.Keys.saved(hierarchy.path).node("c") == 2),
     ("Route.numbers", "node_indices", lambda hierarchy: hierarchy.route("a", "c").numbers == [0, 1, 2]),
     ("Routes.numbers", "node_indices", lambda hierarchy: hierarchy.routes([("a", "c")]).numbers(0).tolist() == [0, 1, 2]),
