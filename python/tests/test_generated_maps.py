@@ -78,7 +78,7 @@ def profiles(draw: Any) -> dict[str, Any]:
 @st.composite
 def maps(draw: Any) -> Map:
     """A map of ways that meet, pass barriers and the same nodes again, name nodes that it lacks, and are cut at nodes."""
-    origin, first = draw(st.sampled_from([*ORIGINS[:2], (0.0, 0.0003)])), draw(st.sampled_from([1, -40, 1 << 33, (1 << 62) + 1]))
+    origin, first = draw(st.sampled_from([(9.5, 70.1), ORIGINS[1], (0.0, 0.0003)])), draw(st.sampled_from([1, -40, 1 << 33, (1 << 62) + 1]))
     # (in units of a degree, 8 of which are a step, so that few cuts are between two of them)
     step, grain = draw(st.sampled_from([(st.integers(-40, 40), 1000), (st.integers(-2, 2), 20_000)]))
     steps = draw(st.lists(st.tuples(step, step, st.sampled_from([0, 0, 8])), min_size=2, max_size=9))
