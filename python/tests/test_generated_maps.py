@@ -12,6 +12,7 @@ from xml.sax.saxutils import quoteattr
 
 import numpy as np
 import pandas
+import pytest
 from comparing import difference
 from draws import ORIGINS, drawn, run_tool
 from hypothesis import given
@@ -173,11 +174,40 @@ def test_rules(members: dict[str, Any], rows: list[list[tuple[str, str]]], text:
 @drawn(100)
 @given(st.data())
 def test_networks(data: Any) -> None:
-    """By any profile, with and without islands, however long the parts are that threads make; and what is said. The file has the
-    arrays that the reader of tables makes."""
     made, profile = data.draw(maps()), data.draw(profiles())
     weight, longest = data.draw(st.sampled_from(["time", "length"])), data.draw(st.sampled_from([90, 250, 2000]))
     ignore, islands, rows = data.draw(st.integers(0, 3)) == 0, data.draw(st.booleans()), data.draw(st.sampled_from([1, 7, 1 << 16]))
+    assert_network(made, profile, longest, weight, ignore, islands, rows, data.draw(st.booleans()))
+
+
+# Nodes in units of a degree, ways, and the longest arc.
+FAR_IDS = [*range(-150, 0), *(number << 40 for number in range(1, 40)), *range((1 << 62) + 7, (1 << 62) + 60)]
+RARE = {
+    "steps without a length at a junction": (
+        {1: (0, 0), 2: (4000, 0), 3: (4000, 3000), 4: (4000, 3000), 5: (4000, 3000), 6: (8000, 3000), 7: (4000, 7000),
+         8: (4000, 3000), 9: (1000, 3500)}, [(1, 2, 3, 4, 5), (5, 6), (5, 7), (5, 8, 9)], 2000),
+    "cuts within a millimetre of a node, and a little more": (
+        {0: (0, 0), 4: (23_001, 0), **{number: (1000 * number + (number > 9), 0) for number in (1, 2, 3, 20, 21, 22)},
+         5: (0, 100), 6: (1000, 100), 7: (10_001, 100), 8: (11_001, 100)}, [(0, 1, 2, 3, 20, 21, 22, 4), (5, 6, 7, 8)], 11.13),
+    "ids far apart, which most ways share, and some aren't there": (
+        {osm: (1000 * (place % 17), 900 * (place // 17)) for place, osm in enumerate(FAR_IDS) if place % 9},
+        [*zip(FAR_IDS, FAR_IDS[1:], FAR_IDS[2:], FAR_IDS[80:]), tuple(FAR_IDS[::-7])], 2000),
+}
+
+
+@pytest.mark.parametrize("nodes, ways, longest", RARE.values(), ids=RARE)
+def test_rare_networks(nodes: dict[int, tuple[int, int]], ways: list[tuple[int, ...]], longest: float) -> None:
+    places = {osm: ((round(east * 1e-7, 7), round(north * 1e-7, 7)), dict[str, str]()) for osm, (east, north) in nodes.items()}
+    made = Map(places, {way: (refs, {"highway": "primary"}) for way, refs in enumerate(ways, 1)}, [])
+    profile = json.loads((PYTHON / "domethyme/maps/profiles/car.json").read_text(encoding="utf-8")) | {"turns": MEMBERS["turns"][0]}
+    assert_network(made, profile, longest, "time", False, True, 7, False)
+
+
+def assert_network(
+    made: Map, profile: Any, longest: float, weight: str, ignore: bool, islands: bool, rows: int, is_turned: bool
+) -> None:
+    """By any profile, with and without islands, however long the parts are that threads make; and what is said. The file has the
+    arrays that the reader of tables makes."""
     try:
         nodes, arcs = convert(made, profile, longest)
     except Ambiguous:
@@ -188,7 +218,7 @@ def test_networks(data: Any) -> None:
     words = ["--weight", weight, "--longest-arc", longest, *["--ignore-turn-restrictions"] * ignore, *["--keep-islands"] * islands]
     with tempfile.TemporaryDirectory() as name, mock.patch.object(parallel, "SLICE_ROWS", rows):
         out = pathlib.Path(name, "map")
-        out.with_suffix(".osm").write_text(xml_of(made, data.draw(st.booleans())), encoding="utf-8")
+        out.with_suffix(".osm").write_text(xml_of(made, is_turned), encoding="utf-8")
         out.with_suffix(".json").write_text(json.dumps(profile))
         try:
             said = run_tool("osm_to_gr", f"{out}.osm", out, "--profile", f"{out}.json", "--tables", *words)[1]

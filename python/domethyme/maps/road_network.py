@@ -191,10 +191,14 @@ def penalties_of(network: RoadNetwork, turns: Turns, penalties: dict[str, int]) 
 
 
 def headings(network: RoadNetwork, arcs: Ints, is_end: bool) -> tuple[Floats, Floats]:
-    """Where each arc leads to in its last step, or in its first: east and north, of any length."""
-    piece, is_back = network.piece[arcs], network.is_back[arcs]
-    first = np.where(is_back ^ is_end, network.runs.end[piece] - 2, network.runs.begin[piece])
-    here, there = (network.runs.points[place].astype(np.float64) for place in (first, first + 1))
+    """Where each arc leads to in its last step that has a length, or in its first: east and north, of any length."""
+    piece, is_back, points = network.piece[arcs], network.is_back[arcs], network.runs.points
+    begin, end = network.runs.begin[piece], network.runs.end[piece] - 2
+    first, last = np.where(is_back ^ is_end, (end, begin), (begin, end))
+    flat = np.flatnonzero(first != last)
+    while len(flat := flat[(points[first[flat]] == points[first[flat] + 1]).all(axis=1) & (first[flat] != last[flat])]):
+        first[flat] += np.sign(last[flat] - first[flat])
+    here, there = (points[place].astype(np.float64) for place in (first, first + 1))
     half = 180 * UNITS
     east = ((there[:, 0] - here[:, 0] + half) % (2 * half) - half) * np.cos(np.radians(here[:, 1] / UNITS))
     sign = np.where(is_back, -1.0, 1.0)

@@ -148,8 +148,8 @@ def cost(into: Arc, out: Arc, rules: Sequence[tuple[int, int, bool]], penalties:
     only, never = ([stop for start, stop, alone in rules if start == into.way and alone is is_only] for is_only in (True, False))
     if out.way in never or only and out.way not in only:
         return -1
-    has_lengths = into.line[-2] != into.line[-1] and out.line[0] != out.line[1]
-    turn = math.remainder(bearing(*out.line[:2]) - bearing(*into.line[-2:]), 360) if has_lengths else 0.0
+    before, after = ([step for step in itertools.pairwise(arc.line) if step[0] != step[1]] for arc in (into, out))
+    turn = math.remainder(bearing(*after[0]) - bearing(*before[-1]), 360) if before and after else 0.0
     if abs(turn) > 165 or into.piece == out.piece and into.is_back is not out.is_back:
         return penalties.get("back", 0)
     return penalties.get("right" if turn > 0 else "left", 0) if abs(turn) > 45 else 0
