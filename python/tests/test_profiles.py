@@ -91,6 +91,33 @@ def test_barriers(text, parted):
     assert parted.split() == [name for name in VEHICLES if blocks_way(tags_of(text), read_profile(name))]
 
 
+# The km/h of profiles, in the order of their files
+KMH = [
+    ("car", "speeds", "110 60 90 50 70 50 60 45 50 40 45 30 10 15 30 5"),
+    ("lorry", "speeds", "80 50 75 45 60 45 50 40 40 35 35 20 7 10 25 5"),
+    ("bicycle", "speeds", "18 16 16 17 17 18 18 18 17 10 14 14 13 12 16 16 8 6 6 16 5"),
+    ("foot", "speeds", "5 5 5 5 2.5 5 5 5 5 5 5 5 5 5 5 5 5 5 5 5 4 5"),
+    ("bicycle", "surfaces", "15 15 10 9 11 10 10 11 8 10 5 5 6 8 12 10 8 12 12"),
+    ("foot", "surfaces", "2.5 3 3"),
+    ("car", "maxspeed_words", "130 7 50 90 100 120 20 30 100 130 80 130 7 100 130 80 130 90 80 130 112.65 112.65 48.28 96.56 "
+     "130 130 80 130 80 100 80 140 130 70 130 130"),
+]
+
+
+def test_figures():
+    """They change on purpose alone. A lorry's rules differ from a car's by what the page names, and closed words by the vehicle."""
+    for name, member, wanted in KMH:
+        assert " ".join(f"{speed:g}" for speed in getattr(read_profile(name), member).values()) == wanted, (name, member)
+    car, lorry, bicycle, foot = map(read_profile, VEHICLES)
+    for name in ("maxspeed_words", "barriers", "oneway_highways", "oneway_junctions"):
+        assert getattr(lorry, name) == getattr(car, name)
+    assert [{*car.closed} ^ {*each.closed} for each in (lorry, bicycle, foot)] == [{"delivery"}, {"bicycle", "dismount"}, {"foot"}]
+    assert [*map(len, (car.closed, car.barriers, bicycle.barriers, foot.barriers, lorry.measures))] == [16, 22, 12, 5, 11]
+    assert {*foot.barriers} < {*bicycle.barriers} < {*car.barriers}
+    sizes = {"maxheight": 4, "maxwidth": 2.55, "maxlength": 16.5, "maxweight": 40, "maxaxleload": 11.5}
+    assert {(re.split("rating|:", key)[0], size) for key, size in lorry.measures.items()} == {*sizes.items()}
+
+
 def test_each_profile_is_listed():
     text = (PROFILES / "README.md").read_text(encoding="utf-8")
     assert all(f"({path.name})" in text for path in PROFILES.glob("*.json"))
