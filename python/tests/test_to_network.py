@@ -81,11 +81,14 @@ def test_what_the_tool_refuses(folder):
 
 
 def test_nodes_without_arcs():
-    """Of the nodes that aren't kept, whatever the kept ones have."""
+    """Of the nodes that aren't kept, whatever the kept ones have; and the quartiles of arcs, of speeds without those of no seconds."""
     nodes = from_tables.NodeArrays({"node_lon": np.arange(4), "node_lat": np.arange(4)})
     arcs = from_tables.straight_arcs(*(np.array([each]) for each in (1, 2, 7)), nodes)
     for kept, says in ([1, 0, 0, 0], "1 of 4 nodes reach one another, and 3 don't, of which 1"), ([0, 1, 1, 0], "of which 2"):
         assert f"{says} have no arc" in components.islands(arcs, np.array(kept, bool))[0]
+    columns = {"arc_metres": np.array([50, 10, 20, 40, 30]), "arc_seconds": np.array([0, 1, 1, 2, 0.5])}
+    shown = [line.split(": ")[1] for line in components.quartiles(arcs._replace(columns=columns))]
+    assert shown == ["10, 20, 30, 40, 50", "36, 63, 72, 108, 216"]
 
 
 CO, GR = "c places\np aux sp co 3\nv 1 0 0\nv 2 1000 0\nv 3 1000 2000\n", "c roads\np sp 3 3\na 1 2 7\na 2 1 7\na 2 3 9\n"
