@@ -1,4 +1,5 @@
 """The files of one network with one beginning of their names, made of a map and opened together."""
+import contextlib
 import os
 import re
 from typing import Any
@@ -6,7 +7,7 @@ from typing import Any
 from .extras import need
 from .graphs import Order, prepare
 from .hierarchy import Hierarchy
-from .keys import Keys
+from .keys import Keys, keys_path
 from .program import StrPath
 from .progress import Progress, reporting
 
@@ -26,7 +27,8 @@ def from_osm(
     path: StrPath, out: StrPath, profile: StrPath = "car", *, progress: Progress = False, order: Order | None = None, **options: Any
 ) -> Hierarchy:
     """Makes the network of a map of OpenStreetMap and its hierarchy, as `osm_to_gr` and `routecli prepare` do, and opens them: OUT.gr,
-    OUT.net and OUT.rch. At an exception the files are as they were before, or the network alone is new.
+    OUT.net and OUT.rch, without the OUT.rch.keys of another one. At an exception the files are as they were before, or the network
+    alone is new.
 
     path      a .osm, .osm.bz2 or .osm.pbf file, which is read twice
     out       the prefix of the output files
@@ -51,7 +53,9 @@ def from_osm(
     with reporting(progress) as on_progress:
         conversion.write_network(path, names, rules, chosen, on_progress)
         prepare(f"{names}.gr", f"{names}.rch", order, progress=on_progress if progress else False).close()
-    return Hierarchy(f"{names}.rch", network=Network(names))  # (keys beside it are those of another one before)
+    with contextlib.suppress(FileNotFoundError):
+        os.unlink(keys_path(f"{names}.rch"))  # (keys of another hierarchy before)
+    return Hierarchy(f"{names}.rch", network=Network(names))
 
 
 def open(path: StrPath) -> Hierarchy:

@@ -62,7 +62,7 @@ exec {domethyme.find_program()} "$@"
     monkeypatch.setenv("ROUTECLI", str(out.parent / "slow"))
     (out.parent / "w.rch.keys").write_text("those of a hierarchy before")
     assert domethyme.from_osm(VILLAGE, out.parent / "w", progress=lambda *now: told.append(now)).keys is None
-    assert ("prepare", 2, 10) in told
+    assert ("prepare", 2, 10) in told and domethyme.open(out.parent / "w").keys is None
 
 
 def test_progress_of_what_takes_long(tmp_path):
