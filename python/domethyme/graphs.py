@@ -319,11 +319,13 @@ def check(graph: Graph | StrPath, hierarchy: StrPath, program: StrPath | None = 
     ReadWriteError, ProgramNotFound, ProgramError.
     """
     with graph_file(graph) as text:
-        run_check(find_program(program), text, os.fspath(hierarchy), os.fspath(hierarchy))
+        graph_name = "the graph" if isinstance(graph, Graph) else text
+        run_check(find_program(program), text, os.fspath(hierarchy), os.fspath(hierarchy), graph_name=graph_name)
 
 
 def run_check(
-    program: str, graph: str, hierarchy: str, name: str, files: Sequence[int] = (), before: Callable[[], None] | None = None
+    program: str, graph: str, hierarchy: str, name: str, files: Sequence[int] = (), before: Callable[[], None] | None = None,
+    graph_name: str | None = None
 ) -> None:
     """Checks a hierarchy's file, which messages call by this name, against a graph's, as `check` does. The program has the open
     `files`, too. `before` is called in its process before it begins, for a caller without threads."""
@@ -335,7 +337,7 @@ def run_check(
     if status not in (WRONG, NOT_SHOWN):
         raise error_from_exit(status, completed.stderr.replace(os.fsencode(hierarchy), os.fsencode(name)), name)
     line = completed.stdout.decode("ascii", "replace").strip()
-    told = completed.stderr.decode("utf-8", "replace").replace(hierarchy, name)
+    told = completed.stderr.decode("utf-8", "replace").replace(hierarchy, name).replace(graph, graph_name or graph)
     explanation = [" ".join(each.split()) for each in told.splitlines()]
     if status == NOT_SHOWN:
         raise NotProved(f"{name}: {line}", NOT_SHOWN, explanation)
