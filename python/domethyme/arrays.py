@@ -44,7 +44,7 @@ def whole_numbers(name: str, values: "ArrayLike | list[Hashable]", low: int, hig
 def pairs_of(pairs: Any, keys: Keys | None, nodes: int) -> Numbers:
     """Rows (from, to), an array, a list or a frame with columns of COLUMNS, or with keys of COLUMNS_OF_KEYS, as an array of shape
     (n, 2) of nodes from 0.
-    Raises NoSuchNode, with the row, and ValueError."""
+    Raises NoSuchNode, with the row or the key, and ValueError."""
     columns = columns_of(pairs, COLUMNS if keys is None else COLUMNS_OF_KEYS)
     if keys is not None:
         firsts, seconds = columns if columns is not None else split(pairs)

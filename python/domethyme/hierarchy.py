@@ -168,7 +168,7 @@ class Hierarchy:
         `pairs` are rows (from, to): an array of shape (n, 2), a list, or a frame of pandas with the columns `from_node` and
         `to_node` (in the tools' tables these count from 1), or else `from` and `to`, or `source` and `target`, and with keys first
         `from_key` and `to_key`; for a frame the lengths are a Series of Int64 with its index, missing if there is no path. As many
-        threads ask as there are processors. Raises NoSuchNode, with the row, and ValueError for what can't be pairs.
+        threads ask as there are processors. Raises NoSuchNode, with the row or the key, and ValueError for what can't be pairs.
         """
         need("numpy")
         from . import arrays, batch
