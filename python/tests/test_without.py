@@ -95,6 +95,8 @@ def test_as_the_model(tmp_path: pathlib.Path, data: Any) -> None:
     hierarchy = domethyme.Hierarchy(f"{prefix}.few.rch", network=network)
     assert pickle.loads(pickle.dumps(network)).exclude == {name} and hierarchy.network is network
     check_nearest(hierarchy, wanted.tables, place, data.draw(st.sampled_from(["from", "to"])))
+    assert network.nodes_frame()["ends"].tolist() == [node.ends for node in wanted.tables.nodes]
+    assert network.arcs_frame()[["from", "to", "weight"]].to_numpy().tolist() == [[*arc[:3]] for arc in wanted.tables.arcs]
     (point,) = network.points_on_roads(place, radius=1e8, snapping="any")
     with contextlib.suppress(Ambiguous):
         assert point.metres <= min(metres for metres, _ in wanted.roads.by_distance(place, is_any=True)) + 0.01
