@@ -195,7 +195,8 @@ def test_ranges_of_bearings(middle: int, away: int, inside: list[int], outside: 
 
 
 def test_roads_of_a_direction_and_a_side(tmp_path: pathlib.Path) -> None:
-    """The nearest road eastwards is found beyond 70 northwards. A place beyond a sharp bend to the left, given twice, is right."""
+    """The nearest road eastwards is found beyond 70 northwards. A place beyond a sharp bend to the left, given twice, is right. A direction
+    is kept at the end of a road, and within one."""
     steps = [((number * 1e-5, 0.0), (number * 1e-5, 0.001)) for number in range(70)]
     steps += [((0.0, 0.002), (0.001, 0.002)), ((0.0, 0.01), (0.0017, 0.0101))]
     roads = [Road(2 * row, 2 * row + 1, 9, 9, ((0.002, 0.01),) * 2 if row == 71 else ()) for row in range(len(steps))]
@@ -208,6 +209,10 @@ def test_roads_of_a_direction_and_a_side(tmp_path: pathlib.Path) -> None:
         assert {*kept.exits} == {141}
         with pytest.raises(domethyme.NoSuchNode):  # (westwards the curb is on its other side)
             hierarchy.network.points_on_roads([(0.0005, 0.0019999)], 50, bearings=[(270, 5)], approaches=["curb"])
+        spots = [(0.0, 0.002), (0.0004, 0.002), (0.001, 0.002)]
+        eastwards = hierarchy.network.points_on_roads(spots[0], bearings=[(90, 5)])
+        assert hierarchy.table(eastwards, spots[1:]).tolist() == [[4, 9]]
+        assert hierarchy.directions(spots, bearings=[None, (270, 5), None], continue_straight=True).weight == 27
 
 
 def least_weight(legs: Any) -> int | None:
@@ -375,11 +380,12 @@ def test_frames(village: Any) -> None:
     axes = [[*map(list, village.table(*side).axes)] for side in sides]
     assert axes == [[[0, 1], names], [names[1:], [0, 1, 2]], [names, names], [names, names[:2]]]
     apart = pandas.DataFrame([*PLACES[:2], (0.0203, 0.005)], columns=["lon", "lat"])
-    rows = village.table(apart.to_numpy())
-    for missing in (-5, math.inf):
+    rows, metres = village.table(apart.to_numpy(), sums=["metres"]).values()
+    assert (rows < 0).any() and (np.isnan(metres) == (rows < 0)).all()
+    for missing in (-5, 0, math.inf):
         tables = [village.table(apart, missing=missing), *village.table(apart, missing=missing, sums=["metres"]).values()]
-        assert all(each.to_numpy().tolist() == np.where(rows < 0, missing, rows).tolist() for each in tables[:2])
-        assert (rows < 0).any() and ((tables[2] == missing) == (rows < 0)).all(axis=None)
+        wanted = [np.where(rows < 0, missing, each).tolist() for each in (rows, rows, metres)]
+        assert [each.to_numpy().tolist() for each in tables] == wanted
     assert village.directions(FRAME) == village.directions(PLACES) == village.directions(np.array(PLACES))
     assert village.directions(PLACES[:1] * 2).line == PLACES[:1] * 2
 
