@@ -16,7 +16,7 @@ from tool_case import TOOLS, VILLAGE
 
 import domethyme
 from domethyme import atomic_files, batch, belonging, dimacs, hierarchy_file, links
-from domethyme.network import from_tables, leg_tables, net_file, reach, snapping
+from domethyme.network import from_tables, leg_tables, net_file, parallel, reach, snapping
 from domethyme_service import tiles
 from domethyme.network import table_files
 from domethyme_tools import on_roads, table
@@ -95,6 +95,13 @@ def reached(drawn):
     return plain([found.roads(0), found.roads(1), [tuple(box) for box in found.boxes]])
 
 
+def written(drawn):
+    """The file of a network, with what is derived of its arrays."""
+    file = io.BytesIO()
+    net_file.write(file, arrays_of(drawn))
+    return file.getvalue()
+
+
 def straight(drawn):
     nodes, arcs = from_tables.read_nodes(f"{drawn.prefix}.csv").arrays, ([1, 2, 3, 4, 5], [2, 3, 4, 5, 6], [7] * 5)
     return plain(from_tables.straight_arcs(*map(np.array, arcs), nodes).columns["arc_metres"])
@@ -151,7 +158,7 @@ CASES = [
     (hierarchy_file, "MAX_READ", lambda drawn: domethyme.Hierarchy(f"{drawn.prefix}.rch").length(0, 5)),
     (from_tables, "ARCS_AT_ONCE", straight),
     (net_file, "SECONDS_AT_A_TIME", lambda drawn: net_file.read(f"{drawn.prefix}.net").has_seconds),
-    (reach, "CHUNK", reached),
+    (reach, "CHUNK", reached), (parallel, "SLICE_ROWS", written),
     (from_tables, "LINES_AT_ONCE", read_again),
     *((snapping, name, snapped) for name in ("EDGE_CACHE_SIZE", "FEW_PLACES", "MANY_EDGES", "MAX_CANDIDATES", "PLACES_PER_BATCH")),
     (snapping, "SEGMENTS_PER_BATCH", lambda drawn: snapping.RoadIndex(drawn.network).nearest((0.1, 0.1), 100)),
