@@ -4,6 +4,7 @@ import functools
 import itertools
 import math
 import pathlib
+import random
 import tempfile
 from typing import Any
 from unittest import mock
@@ -20,14 +21,16 @@ from model.answers import Refused, figures, leg_line, straight_legs
 from model.network import Ambiguous, Arc, Network, Node
 from model.request import Request
 from model.steps import UNITS
-from reach_case import Road, prepared
+from reach_case import Road, network, prepared
 from test_generated_service import ask, check, open_service, target
 from tool_case import VILLAGE
 
 import domethyme
 from domethyme import batch, tours
 from domethyme.network import directions
-from domethyme.network.bearings import BearingRange
+from domethyme.network.bearings import Approach, BearingRange, nearest_by_approach, restrict_to_bearing
+from domethyme.network.geo import bearing
+from domethyme.network.snapping import RoadIndex
 from domethyme.protocol import FAR
 
 SETTINGS = list(itertools.product((True, False), ("any", "first"), ("any", "last")))
@@ -213,6 +216,21 @@ def test_roads_of_a_direction_and_a_side(tmp_path: pathlib.Path) -> None:
         eastwards = hierarchy.network.points_on_roads(spots[0], bearings=[(90, 5)])
         assert hierarchy.table(eastwards, spots[1:]).tolist() == [[4, 9]]
         assert hierarchy.directions(spots, bearings=[None, (270, 5), None], continue_straight=True).weight == 27
+
+
+def test_all_roads_of_a_direction() -> None:
+    """They are those of which the direction at the nearest point is in the range, also at bends and ends, and beyond the nearest roads."""
+    draw = random.Random(4)
+    lines = [[(draw.randrange(40) * 1e-4, draw.randrange(40) * 1e-4) for _ in range(11)] for _ in range(12)]
+    ways = [Road(2 * row, 2 * row + 1, 9, (9, None)[row % 2], tuple(line[1:-1])) for row, line in enumerate(lines)]
+    roads = RoadIndex(network([end for line in lines for end in line[::10]], ways))
+    for line, at in itertools.product(lines, range(11)):
+        place = line[at][0] + draw.choice([0, 0, 2e-5]), line[at][1] + draw.choice([0, 0, 3e-5])
+        step = draw.choice([*itertools.pairwise(draw.choice([line[max(at - 1, 0) : at + 2], draw.choice(lines)]))])
+        wanted = BearingRange(bearing(*step) + draw.choice([0, 180]), draw.choice([0, 1, 20]))
+        kept = [restrict_to_bearing(roads, roads.snap(place, edge), wanted) for edge in roads.nearest_edges(place, len(lines))]
+        some = nearest_by_approach(roads, place, 3, Approach(wanted), math.inf)
+        assert some == [point for point in kept if point is not None][:3]
 
 
 def least_weight(legs: Any) -> int | None:
