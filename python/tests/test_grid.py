@@ -15,7 +15,7 @@ from model import sphere
 from model.network import Arc, Network, Node
 from reach_case import MILLI, Road, arrays, network, prepared
 
-from domethyme.network import grid, parallel, zoom_levels
+from domethyme.network import grid, junctions, parallel, snapping, zoom_levels
 from domethyme.network.geo import bearing, metres_between
 from domethyme.network.indexes import bounding_box, edge_grid, edge_segments, node_degrees, node_grid
 from domethyme.network.snapping import RoadIndex
@@ -175,8 +175,9 @@ def test_bounding_box():
     assert bounding_box(np.empty((0, 2), np.int32)) == [0, 0, 0, 0]
 
 
-def test_many_edges_at_a_node():
+def test_many_edges_at_a_node(monkeypatch):
     """255 are counted, and a ring once."""
+    monkeypatch.setattr(parallel, "SLICE_ROWS", 7)
     nodes = [(0, 0), *((0.01, 0.001 * row) for row in range(256))]
     roads = [*(Road(0, end, 5, 5) for end in range(1, 257)), Road(1, 1, 5, 5, ((0.02, 0), (0.02, -0.01)))]
     assert node_degrees(arrays(nodes, roads)).tolist() == [0, 255, 2, *[1] * 255]
@@ -216,11 +217,16 @@ def test_many_entries_of_few_things():
 
 
 def test_cells_hold_their_places():
-    """Each cell is at least as wide as its band is high, and a place on the seam is beside its neighbour."""
+    """Each is at least as wide as its band is high, a place on the seam is beside its neighbour, and the last ones have room where they
+    are packed with the greatest numbers."""
     counts = grid.columns_per_band(0.0025)
     assert (len(counts), counts[0], counts[36000], counts.max()) == (72000, counts[-1], counts[35999], 143999) and counts[0] <= 6
     keys = grid.cell_keys(np.array([180.0, -180.0, 179.9999]), np.array([0.001] * 3), 0.0025)
     assert keys.tolist() == [(36000 << 32) + 143998, 36000 << 32, (36000 << 32) + 143998]
+    cells, things = np.array([36000 << 32, (36000 << 32) + 143998, 71999 << 32]), np.array([(1 << 29) - 1, 7, (1 << 29) - 2])
+    made = grid.build_grid([grid.pack_keys(cells, things)], 0.0025, 1.0)
+    assert (made.keys.tolist(), made.things.tolist()) == (cells.tolist(), things.tolist())
+    assert min(snapping.EDGE_BITS, junctions.ROAD_BITS - 1) >= 29
 
 
 def test_from_answers_to_a_picture(tmp_path):
