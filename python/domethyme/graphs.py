@@ -319,26 +319,26 @@ def check(graph: Graph | StrPath, hierarchy: StrPath, program: StrPath | None = 
     ReadWriteError, ProgramNotFound, ProgramError.
     """
     with graph_file(graph) as text:
-        graph_name = "the graph" if isinstance(graph, Graph) else text
-        run_check(find_program(program), text, os.fspath(hierarchy), os.fspath(hierarchy), graph_name=graph_name)
+        run_check(find_program(program), text, os.fspath(hierarchy), {text: "the graph"} if isinstance(graph, Graph) else {})
 
 
 def run_check(
-    program: str, graph: str, hierarchy: str, name: str, files: Sequence[int] = (), before: Callable[[], None] | None = None,
-    graph_name: str | None = None
+    program: str, graph: str, hierarchy: str, names: Mapping[str, str], files: Sequence[int] = (),
+    before: Callable[[], None] | None = None
 ) -> None:
-    """Checks a hierarchy's file, which messages call by this name, against a graph's, as `check` does. The program has the open
+    """Checks a hierarchy's file against a graph's, as `check` does; messages call the files by their `names`. The program has the open
     `files`, too. `before` is called in its process before it begins, for a caller without threads."""
     options = {"stdout": subprocess.PIPE, "pass_fds": files, "preexec_fn": before}
     completed = run_explaining(program, ["check"], [graph, hierarchy], **options)
-    status = completed.returncode
+    status, told, name = completed.returncode, completed.stderr, names.get(hierarchy, hierarchy)
     if status == 0:
         return
+    for path, shown in names.items():
+        told = told.replace(os.fsencode(path), os.fsencode(shown))
     if status not in (WRONG, NOT_SHOWN):
-        raise error_from_exit(status, completed.stderr.replace(os.fsencode(hierarchy), os.fsencode(name)), name)
+        raise error_from_exit(status, told, name)
     line = completed.stdout.decode("ascii", "replace").strip()
-    told = completed.stderr.decode("utf-8", "replace").replace(hierarchy, name).replace(graph, graph_name or graph)
-    explanation = [" ".join(each.split()) for each in told.splitlines()]
+    explanation = [" ".join(each.split()) for each in told.decode("utf-8", "replace").splitlines()]
     if status == NOT_SHOWN:
         raise NotProved(f"{name}: {line}", NOT_SHOWN, explanation)
     fault = WrongHierarchy(f"{name}: {line}", WRONG, explanation)

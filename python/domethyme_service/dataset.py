@@ -80,7 +80,8 @@ def open_hierarchy(paths: DatasetPaths, hierarchy: str, graph: str | None, roads
         stamp = file_stamp(number)
         _, links = read_header(number, hierarchy)
         if graph is not None and paths.program is not None:
-            run_check(paths.program, graph, f"/proc/self/fd/{number}", hierarchy, [number], end_with_parent)
+            opened = f"/proc/self/fd/{number}"
+            run_check(paths.program, graph, opened, {opened: hierarchy}, [number], end_with_parent)
         data = pread_all(number, 0, stamp.size)
         router = Router(data, hierarchy)
         turned, summers = Router(data, hierarchy, is_turned=True) if paths.towards else None, dict[str, Summer]()
