@@ -137,7 +137,11 @@ def check_between_nodes(made: Drawn, trips: Trips, labels: list[str], radius: fl
     run_tool("to_geojson", "net", "answers", "--trips", "snapped.csv", "-o", "routes")
     routes = json.loads(pathlib.Path("routes").read_text())
     assert routes["attribution"] == "© the town"
-    for pair, feature in zip(pairs, routes["features"], strict=True):
+    run_tool("to_geojson", "net", "answers", "--trips", "snapped.csv", "--format", "csv", "-o", "routes.csv")
+    columns, *rows = csv.reader(pathlib.Path("routes.csv").read_text().splitlines())
+    for pair, feature, row in zip(pairs, routes["features"], rows, strict=True):
+        found, shown = dict(zip(columns, row, strict=True)), {**feature["properties"], "label": None, "steps": None}
+        assert all(found[name] == str(value) for name, value in shown.items() if value is not None)
         length = network.lengths({pair[0]: 0}).get(pair[1])
         keys = [network.nodes[node].key if has_keys else None for node in pair]
         assert [feature["properties"].get(name) for name in ("from_key", "to_key")] == keys
