@@ -53,10 +53,10 @@ PAIRS = [(key, value) for key, values in TAGS.items() for value in values]
 PAIRS += [(key, value) for tags in (tags_of(row[0]) for row in BARRIERS) for key, value in tags.items() if key == "barrier"]
 PAIRS += [("highway", kind) for kind in "motorway trunk residential footway cycleway service construction ferry".split()]
 DURATIONS = ["1:30", "0:07", " 00:02:30", "100:00:01", "PT2M5S", "PT1H", "3", "0", "PT", "P1D", "12345", "1:60", "1:2"]
-TURNS = """restriction=no_left_turn|restriction=only_right_turn|restriction=no_u_turn|restriction=stop|restriction:hgv=no_entry|
-    restriction=no_exit except=bicycle|restriction=only_u_turn except=x;~motor_vehicle|restriction:foot=no_left_turn|
-    restriction:conditional=no_left_turn|restriction:motorcar=give_way restriction=no_entry|restriction:bicycle=no_u_turn|
-    restriction:motor_vehicle=no_straight_on|type=route restriction=no_entry""".split("|")
+TURNS = """restriction=no_left_turn|restriction=only_right_turn|restriction=only_straight_on|restriction=no_u_turn|restriction=stop|
+    restriction:hgv=no_entry|restriction=no_exit except=bicycle|restriction=only_u_turn except=x;~motor_vehicle|
+    restriction:foot=no_left_turn|restriction:conditional=no_left_turn|restriction:motorcar=give_way restriction=no_entry|
+    restriction:bicycle=no_u_turn|restriction:motor_vehicle=no_straight_on|type=route restriction=no_entry""".split("|")
 # Members that a profile may have in place of its own.
 MEMBERS = {
     "turns": [{"left": 500, "right": 200, "back": 2000}, {"left": 0, "right": 0}, {"back": 1}], "driving_side": ["left", "right"],
@@ -101,12 +101,12 @@ def maps(draw: Any) -> Map:
     for _ in range(draw(st.sampled_from([0, 1, 3, 6]))):
         via = draw(st.sampled_from([*nodes]))
         near = [way for way, (line, _) in ways.items() if via in (line[0], line[-1])] or [*ways]
-        start, stop = draw(st.sampled_from(near)), draw(st.sampled_from([*near * 3, first + 30]))
-        some = [("w", start, "from"), ("n", via, "via"), ("w", stop, "to")]
-        more = ("w", near[0], "from"), ("n", via, "to"), ("n", via, "via"), ("w", via, "where"), ("w", via, "via")
-        some += draw(st.sampled_from([[], [], [], *([member] for member in more)]))
-        some = some[:1] + some[2:] if draw(st.integers(0, 20)) == 0 else some
-        relations.append(({"type": "restriction", **tags_of(draw(st.sampled_from(TURNS)))}, some))
+        start, tags = draw(st.sampled_from(near)), {"type": "restriction", **tags_of(draw(st.sampled_from(TURNS)))}
+        for stop in draw(st.lists(st.sampled_from([*near * 3, first + 30]), min_size=1, max_size=2)):
+            some = [("w", start, "from"), ("n", via, "via"), ("w", stop, "to")]
+            more = ("w", near[0], "from"), ("n", via, "to"), ("n", via, "via"), ("w", via, "where"), ("w", via, "via")
+            some += draw(st.sampled_from([[], [], [], *([member] for member in more)]))
+            relations.append((tags, some[:1] + some[2:] if draw(st.integers(0, 20)) == 0 else some))
     return Map(nodes, ways, relations)
 
 
