@@ -9,6 +9,7 @@ ghost use Rattle.hierfile.specs.Bytes.{IsWritable};
 ghost use Rattle.hierfile.specs.Writing.{WritesFile};
 
 use crate::links::NO_MIDDLE;
+use byteorder::{BigEndian, ByteOrder};
 use ch_graph::{Hierarchy, Link};
 use counted_io::{MOST_CALLS, Sink, StepWrite, WriteFault};
 
@@ -91,7 +92,9 @@ fn write_link<W: StepWrite>(link: &Link, sink: &mut Sink, writer: &mut W)
 fn write_word<W: StepWrite>(number: u32, sink: &mut Sink, writer: &mut W)
     ensures { Puts W.step W.contents sink.old sink.new writer.old writer.new (word number) }
 {
-    sink.put(writer, &number.to_be_bytes());
+    let mut bytes = [0; 4];
+    BigEndian::write_u32(&mut bytes, number);
+    sink.put(writer, &bytes);
 }
 
 // Writes a number of eight bytes.
@@ -99,7 +102,9 @@ fn write_word<W: StepWrite>(number: u32, sink: &mut Sink, writer: &mut W)
 fn write_long<W: StepWrite>(number: u64, sink: &mut Sink, writer: &mut W)
     ensures { Puts W.step W.contents sink.old sink.new writer.old writer.new (long number) }
 {
-    sink.put(writer, &number.to_be_bytes());
+    let mut bytes = [0; 8];
+    BigEndian::write_u64(&mut bytes, number);
+    sink.put(writer, &bytes);
 }
 
 // The number that represents a middle.
