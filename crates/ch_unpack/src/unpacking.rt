@@ -4,6 +4,7 @@ ghost use Rattle.ch_unpack.specs.Unpacking.{IsUnpacked, IsTooLong};
 
 use crate::error::UnpackError;
 use ch_graph::{Hierarchy, LinkId, Parts, links_unfold};
+use smallvec::SmallVec;
 use std::alloc::{AllocError, Global};
 
 /// Returns the nodes of the route from `source` along the links at these places: the source, and then the heads of
@@ -65,7 +66,7 @@ pub fn unpack(
 // links ahead together at most as many as there is room for. Else it goes no further: each link ahead represents one arc or
 // more, so the route has more than it may have.
 fn turn_off(
-    ahead: &mut Vec<LinkId>,
+    ahead: &mut SmallVec<LinkId, 32>,
     nodes: usize,
     room: usize,
     second: LinkId,
@@ -84,7 +85,7 @@ fn turn_off(
 }
 
 /// The same places, the last first.
-fn last_first(alloc: Global, places: &[LinkId]) -> Result<Vec<LinkId>, AllocError>
+fn last_first(alloc: Global, places: &[LinkId]) -> Result<SmallVec<LinkId, 32>, AllocError>
     ensures { IfOk result (λ ahead. reverse ahead.items ≡ places.now) }
 {
     places.iter().rev().copied().collect(alloc)

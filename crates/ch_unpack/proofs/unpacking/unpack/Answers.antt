@@ -29,7 +29,7 @@ route-init c =
       under_way =
           subst (λ (xs : List LinkId). IsUnderWay c.args.hierarchy.now c.args.source c.args.links.now c.push.new.self.items xs) popped
           (set_out c.links_unfold.ensures c.nodes-room.ensures.made c.requires.joined first c.in_ok-ahead.ensures);
-      none_left = none_left ahead _ c.pop-next.result (λ (some : 0 < length ahead). c.pop-next.ensures.variant.1 (omega (arith, some, c.in_ok-ahead.ahead.ok))) popped;
+      none_left = none_left _ _ c.pop-next.result c.pop-next.ensures.variant.1 popped;
       in_room = omega (arith, ap (λ (xs : List ℕ). length xs) first, ap (λ (xs : List LinkId). length xs) c.in_ok-ahead.ensures, length-reverse ahead, ap (λ (xs : List LinkId). length xs) popped);
     }
 
@@ -71,7 +71,7 @@ route-preserved c =
           subst (λ (xs : List LinkId). IsUnderWay c.args.hierarchy.now c.args.source c.args.links.now c.push-in-Arc.new.self.items xs) popped
           (subst (λ (xs : List ℕ). IsUnderWay c.args.hierarchy.now c.args.source c.args.links.now xs left) (sym c.in_ok-push-in-Arc.ensures.items)
           (pass_on c.in-Some.link c.in-Arc.to left c.route.invariant.under_way (with_next left c.route.next c.in-Some.link c.in-Some.is) c.in-Arc.ensures));
-      none_left = none_left left _ c.pop-next-in-Arc.result (λ (some : 0 < length left). c.pop-next-in-Arc.ensures.variant.1 (omega (arith, some, c.route.ahead.ok))) popped;
+      none_left = none_left _ _ c.pop-next-in-Arc.result c.pop-next-in-Arc.ensures.variant.1 popped;
       in_room = omega (arith, c.in_ok-push-in-Arc.ensures.len, ap (λ (xs : List LinkId). length xs) popped, c.route.invariant.in_room, ap (λ (xs : List LinkId). length xs) (with_next left c.route.next c.in-Some.link c.in-Some.is), length-append left (c.in-Some.link ∷ []));
     }
 
