@@ -85,7 +85,7 @@ const GRAPHS: [Case; 11] = [
 ];
 
 /// Places of lines.
-const PLACES: [Case; 11] = [
+const PLACES: [Case; 19] = [
     (b"", Wanted::Fault(GrErrorKind::NoProblemLine, 0)),
     (b"c\n\n", Wanted::Fault(GrErrorKind::NoProblemLine, 2)),
     (b"a 1 2 7", Wanted::Fault(GrErrorKind::NoProblemLine, 1)),
@@ -114,6 +114,35 @@ const PLACES: [Case; 11] = [
     (
         b"p sp 0 134217728\n",
         Wanted::Fault(GrErrorKind::ArcCount, 1),
+    ),
+    (
+        b"p sp 2 1\na 1 3 7",
+        Wanted::Fault(GrErrorKind::NodeRange, 2),
+    ),
+    (
+        b"p sp 2 1\na 3 1 0",
+        Wanted::Fault(GrErrorKind::NodeRange, 2),
+    ),
+    (
+        b"p sp 2 1\na 0 2 x",
+        Wanted::Fault(GrErrorKind::NotANumber, 2),
+    ),
+    (
+        b"p sp 2 1\na 1 2",
+        Wanted::Fault(GrErrorKind::FieldCount, 2),
+    ),
+    (
+        b"p sp 2 1\nab 1 2 7",
+        Wanted::Fault(GrErrorKind::UnknownLine, 2),
+    ),
+    (b"p max 2 1", Wanted::Fault(GrErrorKind::UnknownLine, 1)),
+    (
+        b"p sp 33554433 134217729",
+        Wanted::Fault(GrErrorKind::TooManyNodes, 1),
+    ),
+    (
+        b"p sp 2 134217729",
+        Wanted::Fault(GrErrorKind::TooManyArcs, 1),
     ),
 ];
 

@@ -39,6 +39,8 @@ mod orders;
 #[cfg(test)]
 mod own_order;
 #[cfg(test)]
+mod plain_queue;
+#[cfg(test)]
 mod queues;
 #[cfg(test)]
 mod refused;

@@ -1,4 +1,10 @@
-use ch_workers::Options;
+use crate::kit::{arc, empty_lists};
+use ch_estimate::Leases;
+use ch_workers::{BuildError, OpenGate, Options, build};
+use std::alloc::Global;
+use std::sync::Wait;
+use std::test::Fail;
+use std::thread::Threads;
 
 /// Options that are good for two lists.
 const GOOD: Options = Options {
@@ -12,7 +18,7 @@ const GOOD: Options = Options {
 };
 
 /// Options, a number of lists, and whether they are bad.
-const LIMITS: &[(Options, usize, bool)] = &[
+const LIMITS: &[(Options, u32, bool)] = &[
     (Options { workers: 0, ..GOOD }, 0, false),
     (
         Options {
@@ -121,10 +127,10 @@ const LIMITS: &[(Options, usize, bool)] = &[
 ];
 
 /// Whether these options are bad for these lists where they have to be.
-fn are_limits(limits: &[(Options, usize, bool)]) -> bool {
+fn are_limits(limits: &[(Options, u32, bool)]) -> bool {
     let mut holds = true;
     'limits: for (options, lists, want) in limits {
-        holds &= options.are_bad(*lists) == *want;
+        holds &= options.are_bad(*lists as usize) == *want;
     }
     holds
 }
@@ -132,6 +138,46 @@ fn are_limits(limits: &[(Options, usize, bool)]) -> bool {
 #[test]
 fn numbers_have_limits(rt: HostRuntime) {
     assert!(rt; are_limits(LIMITS));
+}
+
+/// Whether a build of one arc is refused by these options with this many empty lists.
+fn is_refused<R: Threads + Wait + Sync>(
+    rt: &R,
+    alloc: Global,
+    options: Options,
+    lists: u32,
+) -> Result<bool, Fail> {
+    let mut leases = Leases::new(alloc)?;
+    let lists = empty_lists(alloc, lists)?;
+    let built = build(
+        rt,
+        alloc,
+        arc(alloc)?,
+        options,
+        lists,
+        &mut leases,
+        &OpenGate,
+    );
+    Ok(matches!(built, Err(BuildError::BadOptions)))
+}
+
+/// Whether a build is refused by the options that are bad, and by no others.
+fn builds_are_refused<R: Threads + Wait + Sync>(
+    rt: &R,
+    alloc: Global,
+    limits: &[(Options, u32, bool)],
+) -> Result<bool, Fail> {
+    let mut holds = true;
+    'limits: for (options, lists, want) in limits {
+        holds &= is_refused(rt, alloc, *options, *lists)? == *want;
+    }
+    Ok(holds)
+}
+
+#[test]
+fn bad_options_are_refused(rt: HostRuntime) -> Result<(), Fail> {
+    assert!(rt; builds_are_refused(&rt, rt.alloc(), LIMITS)?);
+    Ok(())
 }
 
 #[test]

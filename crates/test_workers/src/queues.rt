@@ -1,4 +1,4 @@
-//! Queues: what is pushed is popped, or left when they are closed. `tests/program/by_the_rules` shows by which draws.
+//! Queues: what is pushed is popped, or left when they are closed. By which draws shows in `plain_queue`, beside plain lists.
 ghost use Rattle.std.specs.Prelude.{◌<◌, ◌≤◌};
 
 use ch_multiqueue::{CloseError, Item, MultiQueue, Pass};
