@@ -50,6 +50,11 @@ abbrev pub TellsPut : Ending → Option (List ℕ) → Type 0
 TellsPut (outcomes.Refused causes.Flush) graph = IfSome graph IsGraphText
 TellsPut outcome graph = TellsPrepared outcome graph None None
 
+-- And the same of one whose file can't be made, which shows before any work: a fault of the text is reported first.
+abbrev pub TellsUnwritable : Ending → Option (List ℕ) → Type 0
+TellsUnwritable (outcomes.Refused (causes.Write fault)) graph = IfSome graph IsGraphText
+TellsUnwritable outcome graph = TellsPrepared outcome graph None None
+
 -- that of a routing job, of the file of the hierarchy and the text of the pairs
 abbrev pub TellsRouted : Ending → Option (List ℕ) → Option (List ℕ) → Option (List ℕ) → Option (List ℕ) → Type 0
 TellsRouted outcome file pairs old new = Ends outcome (IfBothKnown file pairs (λ bytes pairs_text. Writes (Routes bytes pairs_text) old new)) (RefusesRoutes file pairs old new)

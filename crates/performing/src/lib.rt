@@ -29,6 +29,7 @@ mod preparing;
 mod renewing;
 mod routing;
 mod serving;
+mod unwritable;
 mod whole;
 
 pub use answering::{perform_answer, perform_joined};
@@ -40,4 +41,5 @@ pub use preparing::perform_preparation;
 pub use renewing::{perform_renewal, renew_whole};
 pub use routing::perform_route;
 pub use serving::perform_service;
+pub use unwritable::refuse_unwritable;
 pub use whole::prepare_whole;

@@ -18,7 +18,7 @@ use jobs::{Check, Job, Preparation, Renewal, Stop, show_stop};
 use outcomes::{Cause, Ending, Input, WriteFault};
 use performing::{
     perform_answer, perform_check, perform_info, perform_joined, perform_route, perform_service,
-    prepare_whole, renew_whole,
+    prepare_whole, refuse_unwritable, renew_whole,
 };
 use std::env::{Env, FillError};
 use std::io::{ErrorKind, IsTerminal};
@@ -285,7 +285,7 @@ fn show_end<R: Files + Clock>(
     }
 }
 
-// Prepares a hierarchy of a graph's text, and makes its file, unless that can't be made there.
+// Prepares a hierarchy of a graph's text, and makes its file. If no file can be made there, nothing is built.
 fn prepare_file<'a, R: Files + AllocGlobal + Threads + Wait + Sync, G: io::Read, P: Gate>(
     rt: &R,
     preparation: &Preparation<'a>,
@@ -294,7 +294,7 @@ fn prepare_file<'a, R: Files + AllocGlobal + Threads + Wait + Sync, G: io::Read,
 ) -> Ended<'a>
     ensures { IsPreparingStatus (status_after result.outcome) }
 {
-    if let Some(ended) = ended_by_obstacle(rt, preparation.out) {
+    if let Some(ended) = ended_by_obstacle(rt, preparation.out, graph) {
         return ended;
     }
     let mut destination = OutFile::new(rt, preparation.out);
@@ -319,13 +319,21 @@ fn renew<'a, R: Files + AllocGlobal + Clock, W: io::Write>(
     let second = open(rt, Input::Hierarchy, renewal.old);
     let (mut first, mut second) = (first?, second?);
     let ended = renew_of(rt, renewal, &mut first, &mut second, terminal);
-    if ended.outcome == Ending::Wrong {
-        let _ = out.write_all(b"wrong: nodes\n");
-    }
     Ok(Ended {
-        outcome: ended.outcome,
+        outcome: tell_other_nodes(ended.outcome, out),
         failure: ended.failure.or(first.failure()).or(second.failure()),
     })
+}
+
+// Prints the verdict of a renewal whose old hierarchy has other nodes. Returns how the job ends: refused, if that can't be printed.
+fn tell_other_nodes<W: io::Write>(outcome: Ending, out: &mut W) -> Ending
+    requires { IsRenewingStatus (status_after outcome) }
+    ensures { IsRenewingStatus (status_after result) }
+{
+    if outcome == Ending::Wrong && out.write_all(b"wrong: nodes\n").is_err() {
+        return Ending::Refused(Cause::Write(WriteFault { written: 0 }));
+    }
+    outcome
 }
 
 // Makes it of a graph's text and an old file. At a terminal a meter shows how far it has come, and at the end what was
@@ -351,7 +359,7 @@ fn renew_of<'a, R: Files + AllocGlobal + Clock, G: io::Read + Drop, H: io::Read>
     renew_file(rt, renewal.out, graph, old, &Unwatched)
 }
 
-// Makes it, and its file, unless that can't be made there.
+// Makes it, and its file. If no file can be made there, nothing is built.
 fn renew_file<'a, R: Files + AllocGlobal, G: io::Read, H: io::Read, V: Watch>(
     rt: &R,
     out: &'a str,
@@ -361,7 +369,7 @@ fn renew_file<'a, R: Files + AllocGlobal, G: io::Read, H: io::Read, V: Watch>(
 ) -> Ended<'a>
     ensures { IsRenewingStatus (status_after result.outcome) }
 {
-    if let Some(ended) = ended_by_obstacle(rt, out) {
+    if let Some(ended) = ended_by_obstacle(rt, out, graph) {
         return ended;
     }
     let mut destination = OutFile::new(rt, out);
@@ -372,16 +380,22 @@ fn renew_file<'a, R: Files + AllocGlobal, G: io::Read, H: io::Read, V: Watch>(
     }
 }
 
-// How a job ends whose file can't be made there.
-fn ended_by_obstacle<'a, R: Files + AllocGlobal>(rt: &R, out: &'a str) -> Option<Ended<'a>>
+// How a job ends whose file can't be made there: by the fault of its graph's text, if that has one, and else by the obstacle.
+fn ended_by_obstacle<'a, R: Files + AllocGlobal, G: io::Read>(
+    rt: &R,
+    out: &'a str,
+    graph: &mut G,
+) -> Option<Ended<'a>>
     ensures preparing { IfSome result (λ ended. IsPreparingStatus (status_after ended.outcome)) }
     ensures renewing { IfSome result (λ ended. IsRenewingStatus (status_after ended.outcome)) }
 {
     let (name, error) = obstacle(rt, out)?;
-    Some(Ended {
-        outcome: Ending::Refused(Cause::Write(WriteFault { written: 0 })),
-        failure: Some(Failure { name, error }),
-    })
+    let outcome = refuse_unwritable(rt.alloc(), graph);
+    let failure = match outcome {
+        Ending::Refused(Cause::Write(_)) => Some(Failure { name, error }),
+        _ => None,
+    };
+    Some(Ended { outcome, failure })
 }
 
 // The arguments of the command line, the program's name first.

@@ -3,16 +3,19 @@ use std::fs::{self, OpenOptions};
 use std::io::{Error, ErrorKind, Write};
 use std::os::unix::fs::MetadataExt;
 use std::rt::Files;
-use whole_file::folder_of;
+use whole_file::{folder_of, obstacle};
 
-/// Warns before the work if permissions keep the file of a job from being made: a file that is there can't be written, or
-/// no file can be made in its folder. Nothing is made or changed. Of a job that makes no file nothing is printed.
+/// Warns before the work if the file of a job can't be made: its folder is missing, a folder has its name, or permissions forbid
+/// it. Nothing is made or changed. Of a job that makes no file nothing is printed.
 pub fn warn_of<R: Files, E: Write>(rt: &R, job: &Job<'_>, err: &mut E) {
     let path = match job {
         Job::Prepare(preparation) => preparation.out,
         Job::Renew(renewal) => renewal.out,
         _ => return,
     };
+    if let Some((name, error)) = obstacle(rt, path) {
+        return warn(name, &error, err);
+    }
     match fs::metadata(rt, path) {
         Ok(found) if found.is_file() => warn_of_file(rt, path, err),
         Err(error) if error.kind() == ErrorKind::NotFound => warn_of_folder(rt, path, err),
