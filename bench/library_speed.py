@@ -1,5 +1,5 @@
 #!/usr/bin/python3
-"""Measures the library from C and from Python beside `routecli route` and `routecli serve`, and prints the table of docs/LIBRARY.md.
+"""Measures the library from C and from Python beside `routecli route`, and prints the table of docs/LIBRARY.md.
 
     bench/library_speed.py [--nodes N ..] [--rounds ROUNDS] [--threads N] [--folder FOLDER]
 
@@ -7,7 +7,6 @@ By default on the sparse networks (make_sparse.cpp) of 65,536 and 1,000,000 node
 5 rounds with each way in turn. A figure is the median of its rounds, in microseconds of the processor for a pair:
 
   route    `routecli route` beyond a run with no pairs: the search, the nodes, and their line
-  serve    `routecli serve` with `d` lines, beyond as many from a node to itself: the search
   C        domethyme_route and domethyme_length, by one thread (library_speed.c)
   threads  how many times as many routes so many threads find, of the wall clock; by default as many as there are processors
   Python   Hierarchy.route and Hierarchy.length, a call each
@@ -82,10 +81,6 @@ class Network:
         seconds, printed = processor([PROGRAM, "route", self.file, self.texts["all"]])
         self.keep("route", seconds - nothing)
         lengths = [int(fields[3]) if fields[0] == "r" else None for fields in map(str.split, printed.splitlines())]
-        nothing, _ = processor([PROGRAM, "serve", self.file], "".join(f"d {start} {start}\n" for start, _ in self.pairs))
-        seconds, printed = processor([PROGRAM, "serve", self.file], "".join(f"d {start} {end}\n" for start, end in self.pairs))
-        self.keep("serve", seconds - nothing)
-        agree(lengths, [int(fields[3]) if fields[0] == "d" else None for fields in map(str.split, printed.splitlines()[1:])])
         one = self.library(1)
         many = self.library(self.threads)
         self.keep("C length", one[1])
@@ -124,7 +119,7 @@ def main() -> None:
     asked = words.parse_args()
     need_program()
     load = os.getloadavg()[0]
-    names = ["route", "C route", "Python route", "serve", "C length", "Python length"]
+    names = ["route", "C route", "Python route", "C length", "Python length"]
     with tempfile.TemporaryDirectory() if asked.folder is None else contextlib.nullcontext(asked.folder) as name:
         folder = pathlib.Path(name)
         folder.mkdir(parents=True, exist_ok=True)

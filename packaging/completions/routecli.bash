@@ -42,15 +42,15 @@ _routecli() {
 
     options='-h --help' words=
     case $command in
-        '') options+=' -V --version' words='answer prepare route serve info check renew help' ;;
+        '') options+=' -V --version' words='answer prepare route info check renew help' ;;
         answer | route) options+=' --explain' ;;
-        serve | info) most=1 options+=' --explain' ;;
+        info) most=1 options+=' --explain' ;;
         check) options+=' --progress --explain' ;;
         renew) most=3 options+=' --progress --explain' ;;
         prepare) options+=' --workers --sequential --seed --order --stint --progress --explain' ;;
         help)
             options=
-            ((files > 0)) || words='answer prepare route serve info check renew help'
+            ((files > 0)) || words='answer prepare route info check renew help'
             ;;
         *) return ;;
     esac
@@ -70,7 +70,7 @@ _routecli() {
         words+=' -'
     fi
     mapfile -t COMPREPLY < <(compgen -W "$words" -- "$cur")
-    if [[ $command == @(answer|prepare|route|serve|info|check|renew) && $files -lt $most ]]; then
+    if [[ $command == @(answer|prepare|route|info|check|renew) && $files -lt $most ]]; then
         if [[ -z $cur && ${#COMPREPLY[@]} -gt 0 ]]; then
             compopt -o filenames
             mapfile -t -O "${#COMPREPLY[@]}" COMPREPLY < <(compgen -f)

@@ -36,7 +36,7 @@ end
 function __routecli_takes_word
     set -l words (__routecli_words); or return
     test (count $words) -gt 0; and contains -- $words[1] $argv; or return
-    if contains -- $words[1] help serve info
+    if contains -- $words[1] help info
         test (count $words) -lt 2
     else if test $words[1] = renew
         test (count $words) -lt 4
@@ -65,19 +65,18 @@ complete -c routecli -f
 
 complete -c routecli -n __routecli_has_no_command -s h -l help -d 'Print help'
 complete -c routecli -n __routecli_has_no_command -s V -l version -d 'Print version'
-complete -c routecli -n '__routecli_is answer prepare route serve info check renew' -s h -l help -d 'Print help'
+complete -c routecli -n '__routecli_is answer prepare route info check renew' -s h -l help -d 'Print help'
 
 set -l commands '__routecli_has_no_command; or __routecli_takes_word help'
 complete -c routecli -n $commands -a answer -d 'Finds shortest paths in a small graph'
-complete -c routecli -n $commands -a prepare -d 'Prepares a hierarchy of a graph, from which route and serve answer'
+complete -c routecli -n $commands -a prepare -d 'Prepares a hierarchy of a graph, from which route answers'
 complete -c routecli -n $commands -a route -d 'Finds shortest paths, as answer does, using a prepared hierarchy'
-complete -c routecli -n $commands -a serve -d 'Replies to each line of standard input with a line, using a prepared hierarchy'
 complete -c routecli -n $commands -a info -d 'Prints the version, nodes, links, bound and bytes of a prepared hierarchy'
 complete -c routecli -n $commands -a check -d 'Verifies that a hierarchy is right for a graph, whoever made it'
 complete -c routecli -n $commands -a renew -d 'Prepares a hierarchy of a graph in the order of an old one'
 complete -c routecli -n $commands -a help -d 'Print this message or the help of the given subcommand(s)'
 
-complete -c routecli -n '__routecli_takes_word answer prepare route serve info check renew' -F
+complete -c routecli -n '__routecli_takes_word answer prepare route info check renew' -F
 complete -c routecli -n __routecli_takes_input -a - -d 'With - for both files, standard input has both texts'
 
 complete -c routecli -n '__routecli_lacks workers prepare' -l workers -x -d 'Number of threads that contract nodes, 0 to 64'
@@ -87,4 +86,4 @@ complete -c routecli -n '__routecli_lacks order prepare' -l order -x -d 'Which n
     -a "(routecli prepare --help 2>/dev/null | string match -r 'possible values: [^]]*' | string replace 'possible values: ' '' | string split ', ')"
 complete -c routecli -n '__routecli_lacks stint prepare' -l stint -x -d 'Switch each thread to the next order after C contractions'
 complete -c routecli -n '__routecli_lacks progress prepare check renew' -l progress -d 'Show progress from the start'
-complete -c routecli -n '__routecli_lacks explain answer prepare route serve info check renew' -l explain -d 'Explain errors in detail on standard error'
+complete -c routecli -n '__routecli_lacks explain answer prepare route info check renew' -l explain -d 'Explain errors in detail on standard error'

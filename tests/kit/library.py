@@ -82,10 +82,10 @@ class Handle:
         code = self.ask("domethyme_length", start, to, ctypes.byref(found), answers=(OK, NO_PATH))
         return None if code else found.value
 
-    def between(self, starts: Sequence[Seed], ends: Sequence[Seed]) -> Between | None | str:
-        found, nodes = BetweenOfC(), (ctypes.c_uint32 * 64)()
+    def between(self, starts: Sequence[Seed], ends: Sequence[Seed], room: int = 64) -> Between | None | str:
+        found, nodes = BetweenOfC(), (ctypes.c_uint32 * room)()
         sides = [word for seeds in (starts, ends) for word in (seeds_of(seeds), ctypes.c_size_t(len(seeds)))]
-        code = self.ask("domethyme_between", *sides, ctypes.byref(found), nodes, ctypes.c_size_t(64), answers=(OK, NO_PATH, TOO_LONG))
+        code = self.ask("domethyme_between", *sides, ctypes.byref(found), nodes, ctypes.c_size_t(room), answers=(OK, NO_PATH, TOO_LONG))
         if code == OK:
             return Between(found.length, found.start, found.end, nodes[: found.nodes])
         return "too long" if code == TOO_LONG else None

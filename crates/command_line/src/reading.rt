@@ -66,7 +66,6 @@ fn job_of<'a>(name: &str, found: &ArgMatches<'a>) -> Option<Job<'a>> {
     match name {
         "prepare" => preparing(found),
         "route" => routing(found),
-        "serve" => serving(found),
         "info" => informing(found),
         "check" => checking(found),
         "renew" => renewing(found),
@@ -95,11 +94,6 @@ fn preparing<'a>(found: &ArgMatches<'a>) -> Option<Job<'a>> {
 fn routing<'a>(found: &ArgMatches<'a>) -> Option<Job<'a>> {
     let (hierarchy, queries) = files_of(found, "HIER", "QUERIES")?;
     Some(Job::Route { hierarchy, queries })
-}
-
-fn serving<'a>(found: &ArgMatches<'a>) -> Option<Job<'a>> {
-    let hierarchy = found.get_str("HIER")?;
-    Some(Job::Serve { hierarchy })
 }
 
 fn informing<'a>(found: &ArgMatches<'a>) -> Option<Job<'a>> {
@@ -180,7 +174,6 @@ fn program<'a>(alloc: Global) -> Result<Command<'a>, AllocError>
     let program = with(program, answer(alloc))?;
     let program = with(program, prepare(alloc))?;
     let program = with(program, route(alloc))?;
-    let program = with(program, serve(alloc))?;
     let program = with(program, info(alloc))?;
     let program = with(program, check(alloc))?;
     let program = with(program, renew(alloc))?;
@@ -235,7 +228,7 @@ fn preparation<'a>(alloc: Global) -> Result<Command<'a>, AllocError>
 {
     let sequential = sequential(alloc)?;
     Command::new(alloc, "prepare")
-        .about("Prepares a hierarchy of a graph, from which route and serve answer")
+        .about("Prepares a hierarchy of a graph, from which route answers")
         .after_help(PREPARING)
         .arg(workers(alloc))?
         .arg(sequential)?
@@ -254,16 +247,6 @@ fn route<'a>(alloc: Global) -> Result<Command<'a>, AllocError>
         .arg(explain(alloc))?
         .arg(file(alloc, "HIER", HIER))?
         .arg(file(alloc, "QUERIES", QUERIES))
-}
-
-fn serve<'a>(alloc: Global) -> Result<Command<'a>, AllocError>
-    ensures { IfOk result (λ serve. (out-Command serve).has_globals ≡ false) }
-{
-    Command::new(alloc, "serve")
-        .about("Replies to each line of standard input with a line, using a prepared hierarchy")
-        .after_help(SERVING)
-        .arg(explain(alloc))?
-        .arg(file(alloc, "HIER", HIER))
 }
 
 fn info<'a>(alloc: Global) -> Result<Command<'a>, AllocError>
@@ -428,11 +411,6 @@ Example: routecli prepare --order balanced net.gr net.rch";
 const ROUTING: &str = "Example: routecli route net.rch net.pairs\n\n\
 With a first pair from node 1 to node 3 it may print r 1 3 700 2 1 2 3: the pair, the length, 2 arcs, and 3 nodes.";
 
-const SERVING: &str =
-    "q S T asks for a shortest path, d S T for its length, b S C .. : T D .. for the shortest path from any start S to any end T, with the lengths C and D added.\n\n\
-A comment line gets c; an invalid line gets e and the error's name.\n\n\
-Example: echo d 1 3 | routecli serve net.rch";
-
 const INFORMING: &str =
     "The file is read to its end, and refused if route refuses it; the bound is the greatest length that a path may have.\n\n\
 Example: routecli info net.rch";
@@ -444,7 +422,7 @@ const CHECK_PROGRESS: &str =
 
 const CHECKING: &str =
     "It prints right, with status 0; wrong: and what shows that, with status 9; or not shown: and where, or that it took too much work, with status 10, which is no proof that the file is wrong.\n\n\
-From a file that is right, route and serve answer with shortest paths of GRAPH.\n\n\
+From a file that is right, route answers with shortest paths of GRAPH.\n\n\
 Example: routecli check net.gr net.rch";
 
 const OLD: &str = "Hierarchy file, of which only the order of the nodes is used";

@@ -3,14 +3,13 @@ use Rattle.std.specs.Prelude.{Bool, false, ◌&&◌, not, is_some, ⊤, codes}
 use Rattle.std.specs.Str.{bytes_eq}
 use Rattle.jobs.specs.Orders.{takes_turns}
 use Rattle.jobs.specs.declared.job.Job.{Job}
-use Rattle.jobs.specs.declared.job.Job.TheVariants.{Answer, Prepare, Route, Serve, Info, Check, Renew}
+use Rattle.jobs.specs.declared.job.Job.TheVariants.{Answer, Prepare, Route, Info, Check, Renew}
 
 -- both texts are in one input
 abbrev pub is_joined : Job → Bool
 is_joined (Answer graph queries) = bytes_eq graph.now (codes "-") && bytes_eq queries.now (codes "-")
 is_joined (Prepare preparation) = false
 is_joined (Route hierarchy queries) = false
-is_joined (Serve hierarchy) = false
 is_joined (Info hierarchy) = false
 is_joined (Check check) = false
 is_joined (Renew renewal) = false
@@ -20,7 +19,6 @@ abbrev pub names_one_file : Job → Bool
 names_one_file (Answer graph queries) = false
 names_one_file (Prepare preparation) = bytes_eq preparation.graph.now preparation.out.now
 names_one_file (Route hierarchy queries) = false
-names_one_file (Serve hierarchy) = false
 names_one_file (Info hierarchy) = false
 names_one_file (Check check) = false
 names_one_file (Renew renewal) = bytes_eq renewal.graph.now renewal.out.now

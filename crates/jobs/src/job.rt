@@ -21,11 +21,6 @@ pub enum Job<'a> {
         /// The query file.
         queries: &'a str,
     },
-    /// To reply to requests by a hierarchy.
-    Serve {
-        /// The file of the hierarchy.
-        hierarchy: &'a str,
-    },
     /// To print what the file of a hierarchy has.
     Info {
         /// The file of the hierarchy.
@@ -100,7 +95,6 @@ impl Job<'_> {
             Job::Answer { graph, queries } => *graph == "-" && *queries == "-",
             Job::Prepare(_)
             | Job::Route { .. }
-            | Job::Serve { .. }
             | Job::Info { .. }
             | Job::Check(_)
             | Job::Renew(_) => false,
@@ -114,11 +108,7 @@ impl Job<'_> {
         match self {
             Job::Prepare(preparation) => preparation.graph == preparation.out,
             Job::Renew(renewal) => renewal.graph == renewal.out,
-            Job::Answer { .. }
-            | Job::Route { .. }
-            | Job::Serve { .. }
-            | Job::Info { .. }
-            | Job::Check(_) => false,
+            Job::Answer { .. } | Job::Route { .. } | Job::Info { .. } | Job::Check(_) => false,
         }
     }
 
@@ -146,7 +136,6 @@ impl Job<'_> {
             }
             Job::Answer { .. }
             | Job::Route { .. }
-            | Job::Serve { .. }
             | Job::Info { .. }
             | Job::Check(_)
             | Job::Renew(_) => false,

@@ -47,8 +47,6 @@ pub enum Input {
     Queries,
     /// The file of a hierarchy.
     Hierarchy,
-    /// The requests to a service.
-    Requests,
 }
 
 impl fmt::Display for Cause {

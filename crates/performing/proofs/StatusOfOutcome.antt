@@ -9,7 +9,6 @@ use Rattle.outcomes.specs.declared.cause.Cause.{Cause}
 use Rattle.outcomes.specs.declared.cause.Cause.TheVariants as causes
 use Rattle.outcomes.specs.declared.ending.Ending.{Ending}
 use Rattle.outcomes.specs.declared.ending.Ending.TheVariants.{Done, Refused, Wrong, NotShown}
-use Rattle.outcomes.specs.Causes.{file_case}
 use Rattle.ch_service.specs.declared.error.ServiceError.{ServiceError}
 use Rattle.ch_service.specs.declared.error.ServiceError.TheVariants.{OutOfMemory}
 use Rattle.ch_service.specs.Answer.{AnswersByFewest, graph_part, pairs_part, Prepares, RoutesHaveFewestArcs}
@@ -23,12 +22,9 @@ use Rattle.ch_verify.specs.declared.verdict.FileVerdict.TheVariants as verdicts
 use Rattle.ch_renew.specs.Renewal.{RefusesRenewing, Renews, TellsRenewed}
 use Rattle.jobs.specs.Job.{is_joined}
 use Rattle.jobs.specs.declared.job.Job.{Job}
-use Rattle.jobs.specs.declared.job.Job.TheVariants.{Answer, Prepare, Route, Serve, Info, Check, Renew}
-use Rattle.ch_requests.specs.declared.error.ServeError.{ServeError}
-use Rattle.ch_requests.specs.declared.error.ServeError.TheVariants as stops
-use Rattle.ch_requests.specs.Cause.{stop_cause}
+use Rattle.jobs.specs.declared.job.Job.TheVariants.{Answer, Prepare, Route, Info, Check, Renew}
 use Rattle.outcomes.specs.Info.{RefusesInfo}
-use Rattle.performing.specs.Status.{outcome_of, ending_found, Tells, TellsAnswers, TellsChecked, StopsBy, TellsPrepared, TellsRouted, TellsServed, TellsInfo, IsAnsweringStatus, IsPreparingStatus, IsRoutingStatus, IsServingStatus, IsCheckingStatus, IsStatusOf, TellsPut, RoutesAreExactAfter, HasPrepared, HasRenewed, IsRenewingStatus, TellsRenewedPut, ZeroIsDone}
+use Rattle.performing.specs.Status.{outcome_of, ending_found, Tells, TellsAnswers, TellsChecked, TellsPrepared, TellsRouted, TellsInfo, IsAnsweringStatus, IsPreparingStatus, IsRoutingStatus, IsInformingStatus, IsCheckingStatus, IsStatusOf, TellsPut, RoutesAreExactAfter, HasPrepared, HasRenewed, IsRenewingStatus, TellsRenewedPut, ZeroIsDone}
 
 -- What a call says by its outcome.
 
@@ -105,17 +101,17 @@ unchecked why graph file old new refused = record {
 
 -- a job that answers, by whether its texts are in one input
 
-pub of_joined : (j : Job) (o : Ending) (first second left old new : Option (List ℕ)) → is_joined j ≡ true → TellsAnswers o (option_map graph_part first) (option_map pairs_part first) old new → Tells j o first second left old new
-of_joined (Answer graph queries) o first second left old new is t = record {
+pub of_joined : (j : Job) (o : Ending) (first second old new : Option (List ℕ)) → is_joined j ≡ true → TellsAnswers o (option_map graph_part first) (option_map pairs_part first) old new → Tells j o first second old new
+of_joined (Answer graph queries) o first second old new is t = record {
   of_job = subst (λ (b : Bool). MatchBool b (TellsAnswers o (option_map graph_part first) (option_map pairs_part first) old new) (TellsAnswers o first second old new)) (sym is) t;
 }
-of_joined j o first second left old new is t = absurd (cc)
+of_joined j o first second old new is t = absurd (cc)
 
-pub of_two : {j : Job} (graph queries : _) (o : Ending) (first second left old new : Option (List ℕ)) → j ≡ Answer graph queries → is_joined j ≡ false → TellsAnswers o first second old new → Tells j o first second left old new
-of_two {j = Answer a b} graph queries o first second left old new is apart t = record {
+pub of_two : {j : Job} (graph queries : _) (o : Ending) (first second old new : Option (List ℕ)) → j ≡ Answer graph queries → is_joined j ≡ false → TellsAnswers o first second old new → Tells j o first second old new
+of_two {j = Answer a b} graph queries o first second old new is apart t = record {
   of_job = subst (λ (b : Bool). MatchBool b (TellsAnswers o (option_map graph_part first) (option_map pairs_part first) old new) (TellsAnswers o first second old new)) (sym apart) t;
 }
-of_two graph queries o first second left old new is apart t = absurd (cc)
+of_two graph queries o first second old new is apart t = absurd (cc)
 
 -- Which statuses a job may end with, and that nothing was written where the workers don't agree.
 
@@ -166,9 +162,9 @@ routing_end outcome file pairs old new = ending IsRoutingStatus old new (inl ref
   by_cause cause r = absurd r
 
 -- where what one has is printed
-pub informing_end : (outcome : Ending) (file old new : Option (List ℕ)) → TellsInfo outcome file old new → EndsBy IsServingStatus old new outcome
-informing_end outcome file old new = ending IsServingStatus old new (inl refl) by_cause outcome where
-  by_cause : (cause : Cause) → RefusesInfo file old new cause → EndsBy IsServingStatus old new (Refused cause)
+pub informing_end : (outcome : Ending) (file old new : Option (List ℕ)) → TellsInfo outcome file old new → EndsBy IsInformingStatus old new outcome
+informing_end outcome file old new = ending IsInformingStatus old new (inl refl) by_cause outcome where
+  by_cause : (cause : Cause) → RefusesInfo file old new cause → EndsBy IsInformingStatus old new (Refused cause)
   by_cause (causes.Hierarchy fault) r = (inr (inl refl), λ is. absurd (cc))
   by_cause causes.Memory r = (inr (inr (inl refl)), λ is. absurd (cc))
   by_cause (causes.Read input) r = (inr (inr (inr refl)), λ is. absurd (cc))
@@ -200,35 +196,19 @@ renewing_end {outcome = Refused (causes.Read input)} t = (inr (inr (inr (inr (in
 renewing_end {outcome = Refused (causes.Write fault)} t = (inr (inr (inr (inr (inl refl)))), λ is. absurd (cc))
 renewing_end {outcome = Refused cause} t = absurd (t.refused cause refl)
 
--- where requests are replied to
-
-stop_end : (old new : Option (List ℕ)) (e : ServeError) → EndsBy IsServingStatus old new (Refused (stop_cause e))
-stop_end old new (stops.Hierarchy fault) =
-    file_case fault (λ (cause : Cause). EndsBy IsServingStatus old new (Refused cause)) (inr (inr (inl refl)), λ is. absurd (cc)) (inr (inr (inr refl)), λ is. absurd (cc)) (λ own. (inr (inl refl), λ is. absurd (cc)))
-stop_end old new stops.OutOfMemory = (inr (inr (inl refl)), λ is. absurd (cc))
-stop_end old new e = (inr (inr (inr refl)), λ is. absurd (cc))
-
-pub serving_end : (outcome : Ending) (file had left old new : Option (List ℕ)) → TellsServed outcome file had left old new → EndsBy IsServingStatus old new outcome
-serving_end outcome file had left old new =
-    ending IsServingStatus old new (inl refl) by_cause outcome
-  where
-    by_cause : (cause : Cause) → StopsBy file had left old new cause → EndsBy IsServingStatus old new (Refused cause)
-    by_cause cause why = subst (λ (c : Cause). EndsBy IsServingStatus old new (Refused c)) (sym why.1) (stop_end old new why.0)
-
 -- where a job is any of these
 
 answer_end : (joined : Bool) (outcome : Ending) (graph pairs first second old new : Option (List ℕ)) → MatchBool joined (TellsAnswers outcome graph pairs old new) (TellsAnswers outcome first second old new) → EndsBy IsAnsweringStatus old new outcome
 answer_end true outcome graph pairs first second old new t = answering_end outcome graph pairs old new t
 answer_end false outcome graph pairs first second old new t = answering_end outcome first second old new t
 
-pub job_end : (j : Job) (outcome : Ending) (first second left old new : Option (List ℕ)) → Tells j outcome first second left old new → EndsBy (IsStatusOf j) old new outcome
-job_end (Answer graph queries) outcome first second left old new t = answer_end (is_joined (Answer graph queries)) outcome _ _ _ _ old new t.of_job
-job_end (Prepare preparation) outcome first second left old new t = preparing_end outcome first old new t.of_job
-job_end (Route hierarchy queries) outcome first second left old new t = routing_end outcome first second old new t.of_job
-job_end (Serve hierarchy) outcome first second left old new t = serving_end outcome first second left old new t.of_job
-job_end (Info hierarchy) outcome first second left old new t = informing_end outcome first old new t.of_job
-job_end (Check check) outcome first second left old new t = checking_end t.of_job
-job_end (Renew renewal) outcome first second left old new t = renewing_end t.of_job
+pub job_end : (j : Job) (outcome : Ending) (first second old new : Option (List ℕ)) → Tells j outcome first second old new → EndsBy (IsStatusOf j) old new outcome
+job_end (Answer graph queries) outcome first second old new t = answer_end (is_joined (Answer graph queries)) outcome _ _ _ _ old new t.of_job
+job_end (Prepare preparation) outcome first second old new t = preparing_end outcome first old new t.of_job
+job_end (Route hierarchy queries) outcome first second old new t = routing_end outcome first second old new t.of_job
+job_end (Info hierarchy) outcome first second old new t = informing_end outcome first old new t.of_job
+job_end (Check check) outcome first second old new t = checking_end t.of_job
+job_end (Renew renewal) outcome first second old new t = renewing_end t.of_job
 
 -- What the outcome of a preparation says where its bytes are put at a destination.
 

@@ -12,9 +12,6 @@ use Rattle.ch_service.specs.Answer.{AnswersByFewest, graph_part, pairs_part, Pre
 use Rattle.ch_service.specs.Cause.{cause_of}
 use Rattle.ch_service.specs.Outcome.{IfBothKnown, IsGraphText, Writes}
 use Rattle.ch_service.specs.Refusals.{RefusesAnswers, RefusesPreparing, RefusesRoutes}
-use Rattle.ch_requests.specs.Cause.{stop_cause}
-use Rattle.ch_requests.specs.Serving.{IsFileFault, KeepsBefore, Serves, ServesFirst, StopsServing}
-use Rattle.ch_requests.specs.declared.error.ServeError.{ServeError}
 use Rattle.ch_verify.specs.Verdict.{RefusesCheck, IsWrong, Says, verdict_line}
 use Rattle.ch_verify.specs.declared.verdict.Doubt.{Doubt}
 use Rattle.ch_verify.specs.declared.verdict.Refutation.{Refutation}
@@ -24,7 +21,7 @@ use Rattle.ch_renew.specs.Renewal.{Renews, TellsRenewed}
 use Rattle.outcomes.specs.Info.{Informs, RefusesInfo}
 use Rattle.jobs.specs.Job.{is_joined}
 use Rattle.jobs.specs.declared.job.Job.{Job}
-use Rattle.jobs.specs.declared.job.Job.TheVariants.{Answer, Prepare, Route, Serve, Info, Check, Renew}
+use Rattle.jobs.specs.declared.job.Job.TheVariants.{Answer, Prepare, Route, Info, Check, Renew}
 
 -- after a call that prepares or answers
 abbrev pub outcome_of : Result ⊤ ServiceError → Ending
@@ -59,14 +56,6 @@ TellsUnwritable outcome graph = TellsPrepared outcome graph None None
 abbrev pub TellsRouted : Ending → Option (List ℕ) → Option (List ℕ) → Option (List ℕ) → Option (List ℕ) → Type 0
 TellsRouted outcome file pairs old new = Ends outcome (IfBothKnown file pairs (λ bytes pairs_text. Writes (Routes bytes pairs_text) old new)) (RefusesRoutes file pairs old new)
 
--- where a service ended before its requests did, of the file of the hierarchy and of the requests that a reader had and has left
-abbrev pub StopsBy : Option (List ℕ) → Option (List ℕ) → Option (List ℕ) → Option (List ℕ) → Option (List ℕ) → Cause → Type 0
-StopsBy file had left old new cause = (e : ServeError) × (cause ≡ stop_cause e) × KeepsBefore old new e × IfSome file (λ bytes. IsFileFault bytes e) × IfSome file (λ bytes. StopsServing (λ count. ServesFirst count bytes) had left old new e)
-
--- that of a serving job
-abbrev pub TellsServed : Ending → Option (List ℕ) → Option (List ℕ) → Option (List ℕ) → Option (List ℕ) → Option (List ℕ) → Type 0
-TellsServed outcome file had left old new = Ends outcome (IfBothKnown file had (λ bytes requests_text. Writes (Serves bytes requests_text) old new)) (StopsBy file had left old new)
-
 -- that of a job that prints what a hierarchy file has
 abbrev pub TellsInfo : Ending → Option (List ℕ) → Option (List ℕ) → Option (List ℕ) → Type 0
 TellsInfo outcome file old new = Ends outcome (IfSome file (λ bytes. Writes (Informs bytes) old new)) (RefusesInfo file old new)
@@ -85,19 +74,18 @@ abbrev pub TellsRenewedPut : Ending → Option (List ℕ) → Option (List ℕ) 
 TellsRenewedPut (outcomes.Refused causes.Flush) graph file = IfBothKnown graph file (λ graph_text bytes. (made : List ℕ) × Renews graph_text bytes made)
 TellsRenewedPut outcome graph file = TellsRenewed outcome graph file None None
 
--- what that of any job says of what its two readers had and the second has left, and of what was written
-abbrev pub TellsOf : Job → Ending → Option (List ℕ) → Option (List ℕ) → Option (List ℕ) → Option (List ℕ) → Option (List ℕ) → Type 0
-TellsOf (Answer graph queries) outcome first second left old new =
+-- what that of any job says of what its two readers had, and of what was written
+abbrev pub TellsOf : Job → Ending → Option (List ℕ) → Option (List ℕ) → Option (List ℕ) → Option (List ℕ) → Type 0
+TellsOf (Answer graph queries) outcome first second old new =
     MatchBool (is_joined (Answer graph queries)) (TellsAnswers outcome (option_map graph_part first) (option_map pairs_part first) old new) (TellsAnswers outcome first second old new)
-TellsOf (Prepare preparation) outcome first second left old new = TellsPrepared outcome first old new
-TellsOf (Route hierarchy queries) outcome first second left old new = TellsRouted outcome first second old new
-TellsOf (Serve hierarchy) outcome first second left old new = TellsServed outcome first second left old new
-TellsOf (Info hierarchy) outcome first second left old new = TellsInfo outcome first old new
-TellsOf (Check check) outcome first second left old new = TellsChecked outcome first second old new
-TellsOf (Renew renewal) outcome first second left old new = TellsRenewed outcome first second old new
+TellsOf (Prepare preparation) outcome first second old new = TellsPrepared outcome first old new
+TellsOf (Route hierarchy queries) outcome first second old new = TellsRouted outcome first second old new
+TellsOf (Info hierarchy) outcome first second old new = TellsInfo outcome first old new
+TellsOf (Check check) outcome first second old new = TellsChecked outcome first second old new
+TellsOf (Renew renewal) outcome first second old new = TellsRenewed outcome first second old new
 
-pub record Tells (job : Job) (outcome : Ending) (first second left old new : Option (List ℕ)) : Type 0 where
-  pub of_job : TellsOf job outcome first second left old new
+pub record Tells (job : Job) (outcome : Ending) (first second old new : Option (List ℕ)) : Type 0 where
+  pub of_job : TellsOf job outcome first second old new
 
 -- there is an outcome of this status of which this holds
 abbrev pub EndsWith : ℕ → (Ending → Type 0) → Type 0
@@ -126,9 +114,9 @@ IsPreparingStatus n = (n ≡ 0) ⊎ (n ≡ 3) ⊎ (n ≡ 6) ⊎ (n ≡ 7) ⊎ (n
 abbrev pub IsRoutingStatus : ℕ → Type 0
 IsRoutingStatus n = (n ≡ 0) ⊎ (n ≡ 4) ⊎ (n ≡ 5) ⊎ (n ≡ 6) ⊎ (n ≡ 7)
 
--- and a serving one, or one that prints what a hierarchy file has
-abbrev pub IsServingStatus : ℕ → Type 0
-IsServingStatus n = (n ≡ 0) ⊎ (n ≡ 4) ⊎ (n ≡ 6) ⊎ (n ≡ 7)
+-- one that prints what a hierarchy file has
+abbrev pub IsInformingStatus : ℕ → Type 0
+IsInformingStatus n = (n ≡ 0) ⊎ (n ≡ 4) ⊎ (n ≡ 6) ⊎ (n ≡ 7)
 
 -- a checking one
 abbrev pub IsCheckingStatus : ℕ → Type 0
@@ -143,8 +131,7 @@ abbrev pub IsStatusOf : Job → ℕ → Type 0
 IsStatusOf (Answer graph queries) = IsAnsweringStatus
 IsStatusOf (Prepare preparation) = IsPreparingStatus
 IsStatusOf (Route hierarchy queries) = IsRoutingStatus
-IsStatusOf (Serve hierarchy) = IsServingStatus
-IsStatusOf (Info hierarchy) = IsServingStatus
+IsStatusOf (Info hierarchy) = IsInformingStatus
 IsStatusOf (Check check) = IsCheckingStatus
 IsStatusOf (Renew renewal) = IsRenewingStatus
 

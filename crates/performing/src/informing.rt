@@ -1,6 +1,6 @@
 ghost use Rattle.std.specs.Prelude.{◌≡◌};
 ghost use Rattle.outcomes.specs.Outcomes.{status_after};
-ghost use Rattle.performing.specs.Status.{IsServingStatus, TellsInfo};
+ghost use Rattle.performing.specs.Status.{IsInformingStatus, TellsInfo};
 
 use outcomes::{Ending, write_info};
 use std::alloc::Global;
@@ -12,7 +12,7 @@ use std::io::{Read, Write};
 /// `out`. Takes the time and memory of [`write_info`].
 pub fn perform_info<A: Read, W: Write>(alloc: Global, hierarchy: &mut A, out: &mut W) -> Ending
     ensures told { TellsInfo result (A.remaining hierarchy.old) (W.contents out.old) (W.contents out.new) }
-    ensures status { IsServingStatus (status_after result) }
+    ensures status { IsInformingStatus (status_after result) }
 {
     Ending::after(write_info(alloc, hierarchy, out))
 }

@@ -8,7 +8,7 @@
 
 ghost use Rattle.std.specs.Prelude.{IfErr, IfOk, IfSome};
 ghost use Rattle.outcomes.specs.Outcomes.{status_after};
-ghost use Rattle.performing.specs.Status.{IsAnsweringStatus, IsCheckingStatus, IsPreparingStatus, IsRenewingStatus, IsRoutingStatus, IsServingStatus};
+ghost use Rattle.performing.specs.Status.{IsAnsweringStatus, IsCheckingStatus, IsInformingStatus, IsPreparingStatus, IsRenewingStatus, IsRoutingStatus};
 ghost use Rattle.routecli.specs.Opening.{IsUnopened};
 
 use ch_check::{Unwatched, Watch};
@@ -17,8 +17,8 @@ use command_line::command;
 use jobs::{Check, Job, Preparation, Renewal, Stop, show_stop};
 use outcomes::{Cause, Ending, Input, WriteFault};
 use performing::{
-    perform_answer, perform_check, perform_info, perform_joined, perform_route, perform_service,
-    prepare_whole, refuse_unwritable, renew_whole,
+    perform_answer, perform_check, perform_info, perform_joined, perform_route, prepare_whole,
+    refuse_unwritable, renew_whole,
 };
 use std::env::{Env, FillError};
 use std::io::{ErrorKind, IsTerminal};
@@ -107,7 +107,6 @@ fn perform<'a, R: Files + AllocGlobal + Clock + Threads + Wait + Sync, Q: io::Re
         }),
         Job::Answer { graph, queries } => answer(rt, graph, queries, out),
         Job::Route { hierarchy, queries } => route(rt, hierarchy, queries, out),
-        Job::Serve { hierarchy } => serve(rt, hierarchy, input, out),
         Job::Info { hierarchy } => info(rt, hierarchy, out),
         Job::Check(check) => self::check(rt, &check, out, terminal),
         Job::Prepare(preparation) => prepare(rt, &preparation, terminal),
@@ -153,30 +152,13 @@ fn route<'a, R: Files + AllocGlobal, W: io::Write>(
     })
 }
 
-// Replies to requests by the hierarchy of a file.
-fn serve<'a, R: Files + AllocGlobal, Q: io::Read, W: io::Write>(
-    rt: &R,
-    hierarchy: &'a str,
-    requests: &mut Q,
-    out: &mut W,
-) -> Result<Ended<'a>, Ended<'a>>
-    ensures done { IfOk result (λ ended. IsServingStatus (status_after ended.outcome)) }
-    ensures unopened { IfErr result IsUnopened }
-{
-    let mut file = open(rt, Input::Hierarchy, hierarchy)?;
-    Ok(Ended {
-        outcome: perform_service(rt.alloc(), &mut file, requests, out),
-        failure: file.failure(),
-    })
-}
-
 // Prints what the hierarchy of a file has.
 fn info<'a, R: Files + AllocGlobal, W: io::Write>(
     rt: &R,
     hierarchy: &'a str,
     out: &mut W,
 ) -> Result<Ended<'a>, Ended<'a>>
-    ensures done { IfOk result (λ ended. IsServingStatus (status_after ended.outcome)) }
+    ensures done { IfOk result (λ ended. IsInformingStatus (status_after ended.outcome)) }
     ensures unopened { IfErr result IsUnopened }
 {
     let mut file = open(rt, Input::Hierarchy, hierarchy)?;

@@ -144,7 +144,6 @@ fn call_of(job: &Job<'_>) -> &'static str {
         Job::Answer { .. } => "routecli answer GRAPH QUERIES",
         Job::Prepare(_) => "routecli prepare GRAPH OUT",
         Job::Route { .. } => "routecli route HIER QUERIES",
-        Job::Serve { .. } => "routecli serve HIER",
         Job::Info { .. } => "routecli info HIER",
         Job::Check(_) => "routecli check GRAPH HIER",
         Job::Renew(_) => "routecli renew OLD GRAPH OUT",
@@ -158,7 +157,7 @@ fn path_of<'a>(job: &Job<'a>, input: Input) -> Option<&'a str> {
         Job::Answer { graph, queries } => (Some(graph), Some(queries), None),
         Job::Prepare(preparation) => (Some(preparation.graph), None, None),
         Job::Route { hierarchy, queries } => (None, Some(queries), Some(hierarchy)),
-        Job::Serve { hierarchy } | Job::Info { hierarchy } => (None, None, Some(hierarchy)),
+        Job::Info { hierarchy } => (None, None, Some(hierarchy)),
         Job::Check(check) => (Some(check.graph), None, Some(check.hierarchy)),
         Job::Renew(renewal) => (Some(renewal.graph), None, Some(renewal.old)),
     };
@@ -166,7 +165,6 @@ fn path_of<'a>(job: &Job<'a>, input: Input) -> Option<&'a str> {
         Input::Graph => graph,
         Input::Queries => queries,
         Input::Hierarchy => hierarchy,
-        Input::Requests => None,
     }
 }
 

@@ -26,7 +26,7 @@ fn a_failed_flush_is_explained(rt: HostRuntime) {
         outcome: Ending::Refused(Cause::Flush),
         failure: out.failure(),
     };
-    let job = Job::Serve { hierarchy: "a.rch" };
+    let job = Job::Info { hierarchy: "a.rch" };
     let mut err = Vec::new(rt.alloc());
     explain(&rt, &job, &ended, &mut err);
     assert!(rt; err.as_slice() == b"  standard output: other error\n".as_slice());

@@ -4,8 +4,6 @@
 //! A command either does all its work or reports that memory ran out, and has then written whole lines, `prepare`
 //! nothing. Made again it does its work. A growth of what a test sets up ends the test with that error. Writers have
 //! room from the start, so that none of them runs out of memory.
-mod requests;
-
 use crate::answers::{JOINED, NO_PAIRS};
 use crate::examples::{EXAMPLES, Example, NO_NODE, ONE_ARC, ONE_ARC_TEXT, ROW, ROW_TEXT};
 use crate::kit::{Case, Command, options, run, two_lists};

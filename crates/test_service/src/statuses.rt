@@ -136,14 +136,11 @@ fn are_unread<R: Threads + Wait + Sync>(
     true
 }
 
-const SERVE: Job<'static> = Job::Serve { hierarchy: "a.rch" };
-
 /// Jobs of which a reader fails at once.
-const FAILED: [(Job, Given, Given); 11] = [
+const FAILED: [(Job, Given, Given); 10] = [
     (TWO, Given::Nothing, Given::Bytes(PAIRS)),
     (JOINED, Given::Nothing, Given::Bytes(PAIRS)),
     (ROUTE, Given::Nothing, Given::Bytes(PAIRS)),
-    (SERVE, Given::Nothing, Given::Bytes(PAIRS)),
     (INFO, Given::Nothing, Given::Bytes(PAIRS)),
     (CHECK, Given::Nothing, Given::Bytes(PAIRS)),
     (RENEW, Given::Nothing, Given::Bytes(ONE_ARC)),
@@ -167,11 +164,10 @@ fn preparing() -> Job<'static> {
 }
 
 /// Jobs of which a reader fails after the first byte.
-const FAILED_SECOND: [(Job, Given, Given); 11] = [
+const FAILED_SECOND: [(Job, Given, Given); 10] = [
     (TWO, Given::First(b'p'), Given::Bytes(PAIRS)),
     (JOINED, Given::First(b'p'), Given::Bytes(PAIRS)),
     (ROUTE, Given::First(b'R'), Given::Bytes(PAIRS)),
-    (SERVE, Given::First(b'R'), Given::Bytes(PAIRS)),
     (INFO, Given::First(b'R'), Given::Bytes(PAIRS)),
     (CHECK, Given::First(b'p'), Given::Bytes(ONE_ARC)),
     (RENEW, Given::First(b'p'), Given::Bytes(ONE_ARC)),

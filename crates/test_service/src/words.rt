@@ -18,7 +18,7 @@ fn words(alloc: Global, line: &str) -> Result<Vec<String>, AllocError> {
 type Named = (&'static str, Job<'static>, bool);
 
 /// Jobs without options.
-const NAMED: [Named; 10] = [
+const NAMED: [Named; 9] = [
     (
         "routecli answer a.gr b.p2p",
         Job::Answer {
@@ -57,11 +57,6 @@ const NAMED: [Named; 10] = [
             hierarchy: "-",
             queries: "-",
         },
-        false,
-    ),
-    (
-        "routecli serve a.rch",
-        Job::Serve { hierarchy: "a.rch" },
         false,
     ),
     (
@@ -238,12 +233,11 @@ fn names(alloc: Global, line: &str, job: Option<Job<'_>>, is_joined: bool) -> Re
 }
 
 /// Command lines of each command that ask for explanations.
-const EXPLAINED: [&str; 7] = [
+const EXPLAINED: [&str; 6] = [
     "routecli answer --explain a.gr b.p2p",
     "routecli prepare a.gr --explain a.rch",
     "routecli prepare --progress a.gr a.rch --explain",
     "routecli route a.rch b.p2p --explain",
-    "routecli serve --explain a.rch",
     "routecli info a.rch --explain",
     "routecli check a.gr --explain a.rch",
 ];

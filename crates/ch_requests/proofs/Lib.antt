@@ -1,3 +1,0 @@
-pub mod LineToRequest
-pub mod ServedOver
-pub mod Sessions
