@@ -37,7 +37,7 @@ sys.path[1:1] = [str(ROOT / "python"), str(ROOT / "python/tests")]
 
 from browser import Browser  # noqa: E402  (found by the path above)
 
-from domethyme.library import NO_LENGTH, Handle, RouteInfo, Seed, load_later_call, load_library  # noqa: E402
+from domethyme.library import NO_LENGTH, Handle, RouteInfo, Seed, load_library  # noqa: E402
 
 PAIRS, SEED, REACHES = 10_000, 1, 9
 ROWS = ("open", "open again", "route", "length", "reach, first", "reach, again")
@@ -106,7 +106,7 @@ def native(folder: pathlib.Path, pairs: list[tuple[int, int]]) -> Measured:
     lengths, start, times = (ctypes.c_uint64 * count.value)(), (Seed * 1)(Seed(0, pairs[0][0], 0)), []
     for _ in range(1 + REACHES):
         begun = time.perf_counter()
-        assert load_later_call("reach")(at, start, 1, NO_LENGTH, lengths, count.value) == 0
+        assert load_library().domethyme_reach(at, start, 1, NO_LENGTH, lengths, count.value) == 0
         times.append(time.perf_counter() - begun)
     took |= {"reach, first": times[0], "reach, again": statistics.median(times[1:])}
     sums[2] = sum(lengths)

@@ -30,7 +30,6 @@ import importlib.util
 from typing import TYPE_CHECKING, Any
 
 from . import opening
-from .deprecated import warn_renamed
 from .errors import (
     DomethymeError, FileError, GraphError, HierarchyError, HierarchyNotFound, LibraryError, LibraryNotFound, MapError, NetworkError,
     NoSuchNode, NotProved, OutOfMemory, ProgramError, ProgramNotFound, ProgramStopped, ReadWriteError, WrongHierarchy
@@ -49,7 +48,7 @@ if TYPE_CHECKING:
     from .routes import Routes
 
 __all__ = [
-    "DomethymeError", "Fault", "FileError", "Graph", "GraphError", "Hierarchy", "HierarchyError", "HierarchyNotFound",
+    "DomethymeError", "FileError", "Graph", "GraphError", "Hierarchy", "HierarchyError", "HierarchyNotFound",
     "Keys", "LibraryError", "LibraryNotFound", "MapError", "Network", "NetworkError", "NoSuchNode", "NO_PATH", "NotProved",
     "OutOfMemory", "ProgramError", "ProgramNotFound", "ProgramStopped", "ReadWriteError", "Route", "Routes",
     "WrongHierarchy", "check", "find_program", "from_osm", "prepare", "renew", "unscaled", "write_graph"
@@ -57,10 +56,6 @@ __all__ = [
 
 # (not in __all__, so that `from domethyme import *` leaves Python's own alone)
 open = opening.open
-# The name of DomethymeError in scripts that are older than this package.
-Fault = DomethymeError
-# Old words that work until the next version.
-RENAMED = {"NO_WAY": "NO_PATH", "NotShown": "NotProved"}
 # The modules of what needs numpy.
 LATER = {"Network": ".network.network", "Routes": ".routes"}
 
@@ -76,10 +71,7 @@ def __dir__() -> list[str]:
 
 
 def __getattr__(name: str) -> Any:
-    """What needs numpy is loaded when it is first asked for, and a deprecated alias is found too."""
-    if name in RENAMED:
-        warn_renamed(f"domethyme.{name}", RENAMED[name])
-        return globals()[RENAMED[name]]
+    """What needs numpy is loaded when it is first asked for."""
     if name not in LATER:
         raise AttributeError(f"module 'domethyme' has no attribute {name!r}")
     need("numpy")

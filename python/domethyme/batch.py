@@ -53,8 +53,7 @@ def table(
 class Summer:
     """What numbers, one for each link without a middle in the order of the file, sum to along shortest paths, or where the hierarchy is
     turned round along paths to a node. It takes 8 bytes a link, which never change, so threads and processes that are forked share
-    them; and a second for some four million links. All raise OutOfMemory, and LibraryNotFound for a library that is older and lacks
-    the calls."""
+    them; and a second for some four million links. All raise OutOfMemory."""
 
     def __init__(self, router: Router, numbers: NDArray[np.uint32], turned: Router | None = None) -> None:
         with router.searcher() as searcher:

@@ -5,9 +5,6 @@ package that is missing a plain ImportError.
 import contextlib
 import os
 from collections.abc import Iterator, Sequence
-from typing import Any
-
-from .deprecated import warn_renamed
 
 
 class DomethymeError(Exception):
@@ -139,11 +136,3 @@ def raised_as(kind: type[FileError], file: "str | os.PathLike[str]", caught: typ
         yield
     except caught as error:
         raise kind(os_reason(error) if isinstance(error, OSError) else str(error), file) from error
-
-
-def __getattr__(name: str) -> Any:
-    """NotShown, which is NotProved now."""
-    if name == "NotShown":
-        warn_renamed("domethyme.errors.NotShown", "NotProved")
-        return NotProved
-    raise AttributeError(f"module {__name__!r} has no attribute {name!r}")

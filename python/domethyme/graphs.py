@@ -12,7 +12,6 @@ from typing import TYPE_CHECKING, Any, Literal
 
 from . import dimacs, library
 from .atomic_files import atomic_write
-from .deprecated import old_word, warn_renamed
 from .errors import GraphError, NotProved, ReadWriteError, WrongHierarchy, error_from_exit, os_reason
 from .extras import need
 from .hierarchy import Hierarchy, is_whole
@@ -113,9 +112,6 @@ class Graph:
         from_nodes, to_nodes = (np.array(side, np.int64) for side in (starts, ends))
         return cls(from_nodes, to_nodes, whole_or_scaled(list(weights), scale), len(numbers), Keys(numbers))
 
-    of_keys = classmethod(old_word("Graph.of_keys", "Graph.from_keys"))
-    of_frame = classmethod(old_word("Graph.of_frame", "Graph.from_frame"))
-
     @classmethod
     def from_frame(
         cls, frame: Any, source: str = "from", target: str = "to", weight: str = "weight", scale: float | None = None
@@ -213,7 +209,7 @@ def write_graph(
 def prepare(
     graph: "Graph | StrPath", hierarchy: StrPath, order: Order | None = None, workers: int | None = None,
     seed: int | None = None, program: StrPath | None = None, switch_order_after: int | None = None, *,
-    stint: int | None = None, progress: Progress = False, sequential: bool = False
+    progress: Progress = False, sequential: bool = False
 ) -> Hierarchy:
     """Makes the file of the hierarchy of a Graph, or of a graph's file, by `routecli prepare`. Returns the Hierarchy. At an
     exception its file is as it was before.
@@ -224,16 +220,13 @@ def prepare(
     sequential          one thread in place of workers, which makes the file of one worker in less time and half of its memory; not
                         beside `workers`
     seed                of the draws of nodes, 0 to 18446744073709551615; without it 1
-    switch_order_after  after how many nodes a worker takes the next order, from 1; without it none does. `stint` is its old word
+    switch_order_after  after how many nodes a worker takes the next order, from 1; without it none does
     program             the path of `routecli`, else it is looked for (find_program)
     progress            True shows a bar of tqdm; a callable receives ("prepare", nodes done, nodes) five times a second
 
     Time and memory: some 11 s and 1 GB for a million nodes, by four workers; 0.44 GB with `sequential`. Raises GraphError, OutOfMemory,
     ReadWriteError, ProgramNotFound, ProgramError, LibraryNotFound.
     """
-    if stint is not None:
-        warn_renamed("prepare(stint=)", "prepare(switch_order_after=)")
-        switch_order_after = stint
     if order is None:
         order = "balanced" if switch_order_after is None else "depth"
     found = find_program(program)

@@ -7,7 +7,6 @@ import zlib
 from collections.abc import Hashable, Iterable, Iterator, Mapping, Sequence
 from typing import IO, TYPE_CHECKING, Any, Literal, Union, overload
 
-from .deprecated import check_by, radius_of, side_of
 from .errors import NoSuchNode, WrongHierarchy
 from .extras import need
 from .features import Features
@@ -40,7 +39,6 @@ MAX_LIMIT = 1 << 62
 DEFAULT_MINUTES = (5, 10, 15)
 
 Ends = Union[Mapping[Any, int], Iterable[Any]]
-By = Literal["library", "sweeps"]
 Gaps = Literal["split", "ignore"]
 
 
@@ -189,18 +187,17 @@ class Hierarchy:
         return found
 
     @overload
-    def matrix(self, sources: "NDArray[Any]", targets: "NDArray[Any] | None" = None, by: By | None = None) -> "NDArray[np.int64]": ...
+    def matrix(self, sources: "NDArray[Any]", targets: "NDArray[Any] | None" = None) -> "NDArray[np.int64]": ...
     @overload
     def matrix(
-        self, sources: Any, targets: Any = None, by: By | None = None, *, missing: Any = None, progress: Progress = False
+        self, sources: Any, targets: Any = None, *, missing: Any = None, progress: Progress = False
     ) -> Any: ...
     @overload
     def matrix(
         self, sources: Any, targets: Any = None, *, missing: Any = None, progress: Progress = False, sums: Sequence[str]
     ) -> dict[str, Any]: ...
     def matrix(
-        self, sources: Any, targets: Any = None, by: By | None = None, *, missing: Any = None, progress: Progress = False,
-        sums: Sequence[str] = ()
+        self, sources: Any, targets: Any = None, *, missing: Any = None, progress: Progress = False, sums: Sequence[str] = ()
     ) -> Any:
         """The lengths of shortest paths from each source to each target, an array of int64 of shape (sources, targets), -1
         if there is no path. Without targets they are the sources. If one of the two is a Series or Index of pandas, or a
@@ -208,7 +205,6 @@ class Hierarchy:
         targets. Arrays of numpy give an array, of keys too.
 
         missing   what a cell without a path has instead, as numpy.inf to find the nearest, since -1 is below all lengths
-        by        an old argument, which changes nothing any more: leave it out
         progress  True shows a bar of tqdm; a callable receives ("matrix", rows done, rows) as they are answered
         sums      ["metres"]: the result is a dictionary. `length` has the table, and `metres` one of floats, of the metres along
                   some shortest path from each source to each target, to the millimetre, NaN if there is no path
@@ -220,9 +216,8 @@ class Hierarchy:
         then 8 bytes a link and some 32 a node are kept.
 
         Raises NoSuchNode, ValueError, and OutOfMemory for too many cells, before memory is taken. With sums also WrongHierarchy,
-        if the file was replaced before the first ones, and LibraryNotFound for a library that is older and lacks the call.
+        if the file was replaced before the first ones.
         """
-        check_by(by)
         need("numpy")
         from . import arrays, batch
 
@@ -245,24 +240,18 @@ class Hierarchy:
 
     @overload
     def nearest(
-        self, lon: float, lat: float, side: Side | bool = "from", *, radius: float = DEFAULT_RADIUS, within: float | None = None,
-        end: bool | None = None
+        self, lon: float, lat: float, side: Side = "from", *, radius: float = DEFAULT_RADIUS
     ) -> tuple[Any, float]: ...
     @overload
     def nearest(
-        self, lon: Rows, lat: Rows, side: Side | bool = "from", *, radius: float = DEFAULT_RADIUS, within: float | None = None,
-        end: bool | None = None
+        self, lon: Rows, lat: Rows, side: Side = "from", *, radius: float = DEFAULT_RADIUS
     ) -> "tuple[NDArray[Any], NDArray[np.float64]]": ...
-    def nearest(
-        self, lon: Any, lat: Any, side: Side | bool = "from", *, radius: float = DEFAULT_RADIUS, within: float | None = None,
-        end: bool | None = None
-    ) -> tuple[Any, Any]:
+    def nearest(self, lon: Any, lat: Any, side: Side = "from", *, radius: float = DEFAULT_RADIUS) -> tuple[Any, Any]:
         """The node nearest to each place in degrees, or its key, None if it has none, and how many metres away it is along the great
         circle: one where routes begin, or with side="to" one where they end, which differ at junctions with turn restrictions. Two
         numbers give a node and a float, two arrays give two arrays. Needs the network. Raises NoSuchNode where none is within
         `radius` metres, and ValueError. A node is up to half an arc from the place on the road that `within` and the service begin at."""
-        radius = radius_of(radius, within, "nearest(within=)")
-        nodes, metres = self._need_network().nearest(lon, lat, side_of(side, end), radius=radius)
+        nodes, metres = self._need_network().nearest(lon, lat, side, radius=radius)
         if self.keys is None:
             return nodes, metres
         return (self.keys.key(nodes) if isinstance(nodes, int) else self.keys.of(nodes)), metres
@@ -292,8 +281,7 @@ class Hierarchy:
         two starts take 7 or 11 times as long, and `matrix` says what the first ones take. Memory: 8
         bytes for each node, and the library's. The first question `towards` reads the file again and turns each link round, which
         takes some three times as long as to open it, and then the memory of a hierarchy more. Raises NoSuchNode, ValueError,
-        OutOfMemory, LibraryNotFound for a library that is older and lacks the call, and WrongHierarchy if the file was replaced before
-        the first question `towards` or the first sums.
+        OutOfMemory, and WrongHierarchy if the file was replaced before the first question `towards` or the first sums.
         """
         need("numpy")
         from . import arrays, batch
@@ -315,7 +303,7 @@ class Hierarchy:
     def within(
         self, place: Rows, minutes: Sequence[float] = (), *, metres: Sequence[float] = (), shape: "Shape" = "polygons",
         generalize: float = 0.0, denoise: float = 0.0, colors: Sequence[str] = (), towards: bool = False,
-        radius: float = DEFAULT_RADIUS, max_metres: float | None = None
+        radius: float = DEFAULT_RADIUS
     ) -> Features:
         """What is reached from a place (lon, lat) in degrees, or from the nearest of several, as GeoJSON: a
         FeatureCollection (Features, a dict) with a Feature for each number of minutes, the greatest first, with the properties of Mapbox's
@@ -333,7 +321,7 @@ class Hierarchy:
         The lengths are the library's. Polygons and lines are drawn from them and aren't proved. Raises NoSuchNode if no
         road is near enough, ValueError, and what `reach` does.
         """
-        network, radius = self._need_network(), radius_of(radius, max_metres, "within(max_metres=)")
+        network = self._need_network()
         for name in ("numpy", "scipy", "shapely"):
             need(name)
         from . import batch

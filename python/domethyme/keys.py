@@ -10,7 +10,6 @@ from typing import TYPE_CHECKING, Any
 from .atomic_files import atomic_write
 from .belonging import digest_of
 from .csv_tables import open_table
-from .deprecated import old_word
 from .errors import FileError, NoSuchNode, os_reason
 from .limits import MAX_NODES
 from .program import StrPath
@@ -95,8 +94,6 @@ class Keys:
         if keys is None:
             raise FileError(f"has the keys of another file than {os.fspath(hierarchy)}", keys_path(hierarchy))
         return keys
-
-    saved = classmethod(old_word("Keys.saved", "Keys.load"))
 
     def save(self, hierarchy: StrPath) -> None:
         """Saves the keys beside the file of their hierarchy, as FILE.keys, with its digest, so that nobody takes them for those of

@@ -4,7 +4,6 @@ import errno
 import functools
 import os
 import pathlib
-from typing import Any
 
 from .errors import LibraryNotFound
 from .program import StrPath
@@ -60,11 +59,6 @@ ARGUMENTS: dict[str, list[type]] = {
     "between": [A_HANDLE, ARRAY, COUNT, ARRAY, COUNT, ctypes.POINTER(BetweenInfo), ARRAY, COUNT],
     "lengths": [A_HANDLE, ARRAY, COUNT, ARRAY, COUNT],
     "table": [A_HANDLE, ARRAY, COUNT, ARRAY, COUNT, ARRAY, COUNT],
-    "text": [ctypes.c_uint32, ctypes.c_char_p, COUNT],
-}
-RETURNS: dict[str, type | None] = {"close": None, "text": COUNT}
-# Calls that older libraries lack.
-LATER_ARGUMENTS: dict[str, list[type]] = {
     "open_turned": [A_HANDLE, ARRAY, COUNT],
     "reach": [A_HANDLE, ARRAY, COUNT, ctypes.c_uint64, ARRAY, COUNT],
     "links": [A_HANDLE, ctypes.POINTER(ctypes.c_size_t)],
@@ -72,7 +66,9 @@ LATER_ARGUMENTS: dict[str, list[type]] = {
     "numbers": [A_HANDLE, ARRAY, COUNT, ARRAY, COUNT],
     "table_sums": [A_HANDLE, ARRAY, COUNT, ARRAY, COUNT, ARRAY, COUNT, ARRAY, COUNT],
     "reach_sums": [A_HANDLE, ARRAY, COUNT, ARRAY, COUNT, ARRAY, COUNT, ctypes.c_uint64, ARRAY, COUNT],
+    "text": [ctypes.c_uint32, ctypes.c_char_p, COUNT],
 }
+RETURNS: dict[str, type | None] = {"close": None, "text": COUNT}
 GET_IT = "install libdomethyme1, build it by packaging/build-library, or set DOMETHYME_LIBRARY"
 
 
@@ -101,16 +97,6 @@ def load_library() -> ctypes.CDLL:
         why = str(error).removeprefix(f"{path}: ")
         raise LibraryNotFound(f"{path}: {why}; {GET_IT}") from None
     return found
-
-
-@functools.cache
-def load_later_call(name: str) -> Any:
-    """A call that older libraries lack. Raises LibraryNotFound, also if the library is one of these."""
-    call = getattr(load_library(), f"domethyme_{name}", None)
-    if call is None:
-        raise LibraryNotFound(f"{find_library()}: is older than this package, and has no domethyme_{name}; {GET_IT}")
-    call.argtypes, call.restype = LATER_ARGUMENTS[name], ctypes.c_uint32
-    return call
 
 
 def error_message(code: int) -> str:

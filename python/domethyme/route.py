@@ -2,7 +2,6 @@
 from collections.abc import Hashable, Sequence
 from typing import TYPE_CHECKING, Any, NamedTuple, Union
 
-from .deprecated import warn_renamed
 from .features import need_network, picture
 
 if TYPE_CHECKING:
@@ -36,12 +35,6 @@ class Route(NamedTuple):
     def arcs(self) -> int:
         """How many arcs it has."""
         return len(self.node_indices) - 1
-
-    @property
-    def numbers(self) -> list[int]:
-        """The old word of `node_indices`."""
-        warn_renamed("Route.numbers", "Route.node_indices")
-        return self.node_indices
 
     def geojson(self, network: "Network | None" = None) -> dict[str, Any]:
         """The route as a Feature along the real road, of its hierarchy's network unless one is named; see Network.geojson. Raises

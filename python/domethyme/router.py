@@ -18,7 +18,7 @@ from typing import TYPE_CHECKING, Any
 from .errors import HierarchyError, LibraryError, OutOfMemory
 from .library import (
     CODE_NO_PATH, FIRST_FAULT, NO_LENGTH, NO_ROOM, OK, OUT_OF_MEMORY, TOO_LONG, BetweenInfo, Handle, RouteInfo, Seed,
-    error_message, load_later_call, load_library
+    error_message, load_library
 )
 from .protocol import RouterResult
 
@@ -45,10 +45,10 @@ class Searcher:
 
     def open(self, data: bytes | bytearray, is_turned: bool = False) -> int:
         """Opens the bytes of a file, each link turned round or as it is, and returns its nodes. Raises HierarchyError, with its first
-        fault, OutOfMemory, and LibraryNotFound for an older library that can't turn."""
+        fault, and OutOfMemory."""
         number = ctypes.c_uint32()
         whole = data if isinstance(data, bytes) else (ctypes.c_char * len(data)).from_buffer(data)
-        call = load_later_call("open_turned") if is_turned else self._library.domethyme_open
+        call = self._library.domethyme_open_turned if is_turned else self._library.domethyme_open
         self._check(call(self._at, whole, len(data)))
         self._check(self._library.domethyme_nodes(self._at, byref(number)))
         return number.value
@@ -90,21 +90,21 @@ class Searcher:
         self._check(self._library.domethyme_table(self._at, *arrays))
 
     def links(self) -> int:
-        """The number of links. Raises LibraryNotFound for a library that is older than calls of sums, as they all do."""
+        """The number of links."""
         count = ctypes.c_size_t()
-        self._check(load_later_call("links")(self._at, byref(count)))
+        self._check(self._library.domethyme_links(self._at, byref(count)))
         return count.value
 
     def arcs(self, ends: "NDArray[np.uint32]") -> int:
         """Writes the ends of each link without a middle, in the order in which numbers are given, and returns how many they are."""
         count = ctypes.c_size_t()
-        self._check(load_later_call("arcs")(self._at, ends.ctypes.data, ends.size // 2, byref(count)))
+        self._check(self._library.domethyme_arcs(self._at, ends.ctypes.data, ends.size // 2, byref(count)))
         return count.value
 
     def numbers(self, numbers: "NDArray[np.uint32]", number_set: "NDArray[np.uint64]") -> None:
         """Writes the set of numbers of links without a middle: one for each link, and a word before them."""
         arrays = numbers.ctypes.data, len(numbers), number_set.ctypes.data, len(number_set)
-        self._check(load_later_call("numbers")(self._at, *arrays))
+        self._check(self._library.domethyme_numbers(self._at, *arrays))
 
     def table_sums(
         self, number_set: "NDArray[np.uint64]", sources: "NDArray[np.uint32]", targets: "NDArray[np.uint32]",
@@ -112,12 +112,12 @@ class Searcher:
     ) -> None:
         """The same with what the numbers of a set sum to, to cells of two."""
         arrays = number_set.ctypes.data, len(number_set), sources.ctypes.data, len(sources), targets.ctypes.data, len(targets)
-        self._check(load_later_call("table_sums")(self._at, *arrays, cells.ctypes.data, cells.size // 2))
+        self._check(self._library.domethyme_table_sums(self._at, *arrays, cells.ctypes.data, cells.size // 2))
 
     def reach(self, starts: "ctypes.Array[Seed]", limit: int | None, lengths: "NDArray[np.int64]") -> None:
         """The same of each node from the nearest start, with what is added there, up to a limit. Raises LibraryNotFound."""
         arrays = addressof(starts), len(starts), NO_LENGTH if limit is None else limit, lengths.ctypes.data, len(lengths)
-        self._check(load_later_call("reach")(self._at, *arrays))
+        self._check(self._library.domethyme_reach(self._at, *arrays))
 
     def reach_sums(
         self, number_set: "NDArray[np.uint64]", starts: "ctypes.Array[Seed]", added: "NDArray[np.uint32]", limit: int | None,
@@ -126,7 +126,7 @@ class Searcher:
         """The same with what the numbers of a set sum to, from a start whose own number is added, to cells of two."""
         arrays = [number_set.ctypes.data, len(number_set), addressof(starts), len(starts), added.ctypes.data, len(added)]
         most = NO_LENGTH if limit is None else limit
-        self._check(load_later_call("reach_sums")(self._at, *arrays, most, cells.ctypes.data, cells.size // 2))
+        self._check(self._library.domethyme_reach_sums(self._at, *arrays, most, cells.ctypes.data, cells.size // 2))
 
     def _with_room(self, call: Any, info: RouteInfo | BetweenInfo, *question: int) -> bool:
         """Whether a call finds a path, of which it writes to the info and to `nodes`, with as much room as it needs."""

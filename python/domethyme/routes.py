@@ -7,7 +7,6 @@ import numpy as np
 from numpy.typing import NDArray
 
 from .arrays import with_missing
-from .deprecated import old_word
 from .extras import load
 from .features import MAX_SHOWN, need_network, picture
 from .keys import Keys
@@ -77,8 +76,6 @@ class Routes:
             raise IndexError(f"there is no route {row} among {len(self)}")
         row = operator.index(row) % len(self)
         return self.nodes[self.offsets[row] : self.offsets[row + 1]]
-
-    numbers = old_word("Routes.numbers", "Routes.node_indices")
 
     @property
     def arcs(self) -> NDArray[np.int64]:

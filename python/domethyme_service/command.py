@@ -8,7 +8,6 @@ Exit status: 0; 1 if it can't start, with one line on standard error; 2 for inva
 """
 import argparse
 import errno
-import functools
 import ipaddress
 import logging
 import os
@@ -16,12 +15,11 @@ import pathlib
 import socket
 import sys
 from collections.abc import Callable, Sequence
-from typing import Any, NoReturn
+from typing import Any
 
 from gunicorn import systemd
 
 from domethyme import DomethymeError, find_program
-from domethyme.deprecated import current_options
 from domethyme.network.without import parse_classes
 
 from .access import ANY_HOST, HOST, ORIGIN, AccessPolicy
@@ -43,15 +41,6 @@ PROBE_SUFFIX = ".probe"
 BACKLOG = 1024
 # Bytes that the kernel buffers of a client: a worker peeks at the complete head of a request before it reads it.
 RECEIVE_BUFFER = 1 << 18
-RENAMED_OPTIONS = {
-    "--fronts": "--workers", "--checked": "--verify", "--within": "--radius", "--default-radius": "--radius",
-    "--table-cells": "--max-table-cells",
-}
-REMOVED_OPTIONS = {
-    "--connections": "worker_connections of nginx",
-    "--client-connections": f"limit_conn in {NGINX}",
-    "--head-seconds": f"client_header_timeout in {NGINX}",
-}
 
 
 def argument_parser() -> argparse.ArgumentParser:
@@ -75,7 +64,6 @@ def argument_parser() -> argparse.ArgumentParser:
     add("--port", metavar="PORT", type=int_between(0, 65535), default=5000, help="the port, 0 for any that is free (5000)")
     workers = f"processes that answer, {MIN_WORKERS} or more ({MIN_WORKERS})"
     add("--workers", metavar="N", type=int_between(1, 64), default=MIN_WORKERS, help=workers)
-    add("--tables", choices=("fast", "proved"), help=argparse.SUPPRESS)
     cells = "cells of a table (1000000)"
     add("--max-table-cells", metavar="N", type=int_between(1, 4_000_000), default=1_000_000, help=cells)
     profile = "a word that PROFILE may be in paths, by default any; several times"
@@ -86,14 +74,7 @@ def argument_parser() -> argparse.ArgumentParser:
     add("--cors", metavar="ORIGIN", type=parse_origin, default="none", help="the origin whose pages may ask, * for any (none)")
     add("--access-log", action="store_true", help="a line of JSON on standard error for each request")
     add("--log-places", action="store_true", help="also log the request's path and the client's address (implies --access-log)")
-    for name, substitute in REMOVED_OPTIONS.items():
-        refuse = functools.partial(refuse_option, parser, f"{name} is no longer an option: use {substitute}")
-        add(name, type=refuse, nargs=1, help=argparse.SUPPRESS)
     return parser
-
-
-def refuse_option(parser: argparse.ArgumentParser, message: str, _text: str) -> NoReturn:
-    parser.error(message)
 
 
 def int_between(low: int, high: int) -> Callable[[str], int]:
@@ -197,10 +178,7 @@ def check_loopback(address: str) -> None:
 
 def main(words: Sequence[str] | None = None) -> None:
     """The command; ends the process."""
-    current, lines = current_options(sys.argv[1:] if words is None else words, RENAMED_OPTIONS)
-    for line in lines:
-        print(f"domethyme-serve: {line}", file=sys.stderr)
-    args = argument_parser().parse_args(current)
+    args = argument_parser().parse_args(words)
     access_log = logging.getLogger("domethyme_service.access")
     access_log.setLevel(logging.INFO if args.access_log or args.log_places else logging.WARNING)
     logging.getLogger("domethyme_service").setLevel(logging.INFO)
@@ -209,8 +187,6 @@ def main(words: Sequence[str] | None = None) -> None:
     if args.workers < MIN_WORKERS:
         why = f"takes {MIN_WORKERS}, the least, since a long request holds one"
         print(f"domethyme-serve: --workers {args.workers}: {why}", file=sys.stderr)
-    if args.tables is not None:
-        print("domethyme-serve: --tables goes with the next version: leave it out, since all tables are proved", file=sys.stderr)
     try:
         program = None if args.verify is None else find_program(args.program)
         paths = DatasetPaths(args.hierarchy, args.network, args.verify, program, args.compare_all, args.towards, dict(args.exclude))

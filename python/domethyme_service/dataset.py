@@ -1,13 +1,12 @@
 """The dataset that workers serve: a hierarchy and its network. Its files are opened and compared with one another before the
 workers are forked, so they share its memory."""
-import contextlib
 import ctypes
 import signal
 import tempfile
 from collections.abc import Mapping
 from typing import NamedTuple
 
-from domethyme import LibraryNotFound, belonging
+from domethyme import belonging
 from domethyme.batch import Summer
 from domethyme.graphs import run_check
 from domethyme.hierarchy_file import FileStamp, file_stamp, open_hierarchy_file, pread_all, read_header
@@ -97,14 +96,11 @@ def open_hierarchy(paths: DatasetPaths, hierarchy: str, graph: str | None, roads
 
 
 def open_summers(file: int, hierarchy: str, roads: RoadIndex, router: Router) -> dict[str, Summer]:
-    """What sums up along paths, by the name of the annotation: for traces metres, and for tables seconds where these aren't the weight;
-    nothing by an older library."""
+    """What sums up along paths, by the name of the annotation: for traces metres, and for tables seconds where these aren't the weight."""
     columns = {"duration": roads.arrays.arc_seconds} if roads.has_seconds and roads.unit != "duration" else {}
     columns["distance"] = roads.arrays.arc_metres
     numbers = Links.of(file, hierarchy).thousandths(roads.arrays, [*columns.values()])
-    with contextlib.suppress(LibraryNotFound):
-        return {name: Summer(router, some) for name, some in zip(columns, numbers)}
-    return {}
+    return {name: Summer(router, some) for name, some in zip(columns, numbers)}
 
 
 def end_with_parent(number: int = signal.SIGKILL) -> None:

@@ -20,28 +20,25 @@ PAGE_SIZE = os.sysconf("SC_PAGE_SIZE")
 
 
 class Metric(NamedTuple):
-    """A metric without labels. Names are without `domethyme_`; the old one is reported too for one version."""
+    """A metric without labels. Its name is without `domethyme_`."""
 
     name: str
     kind: str
     help: str
-    old_name: str = ""
 
 
 METRICS = (
-    Metric("workers", "gauge", "Processes that accept connections.", "fronts"),
+    Metric("workers", "gauge", "Processes that accept connections."),
     Metric("last_reload_failed", "gauge", "1 if the last reload was refused, else 0."),
     Metric("last_reload_timestamp_seconds", "gauge", "When the files were opened that are served, in seconds since 1970."),
     Metric("nodes", "gauge", "Nodes of the hierarchy."),
     Metric("resident_memory_bytes", "gauge", "Resident memory of the largest process; the processes share most of it."),
-    Metric("queries_total", "counter", "Queries to the hierarchy.", "questions_total"),
-    Metric("worker_restarts_total", "counter", "Workers that were replaced since they had ended.", "front_restarts_total"),
-    Metric("worker_timeouts_total", "counter", "Workers that were killed since they were silent.", "front_silences_total"),
+    Metric("queries_total", "counter", "Queries to the hierarchy."),
+    Metric("worker_restarts_total", "counter", "Workers that were replaced since they had ended."),
+    Metric("worker_timeouts_total", "counter", "Workers that were killed since they were silent."),
     Metric("reloads_total", "counter", "Reloads of the files."),
-    Metric("reload_failures_total", "counter", "Reloads that were refused.", "reloads_refused_total"),
-    Metric(
-        "requests_cancelled_total", "counter", "Requests that were ended since they took too long.", "work_stopped_total"
-    ),
+    Metric("reload_failures_total", "counter", "Reloads that were refused."),
+    Metric("requests_cancelled_total", "counter", "Requests that were ended since they took too long."),
     Metric("requests_waiting", "gauge", "Requests that wait for slots."),
     Metric("log_lines_lost_total", "counter", "Lines for standard error that were lost since nobody read it."),
     Metric("long_requests_refused_total", "counter", "Long requests that were refused since too many were under way."),
@@ -98,7 +95,7 @@ def format_header(name: str, kind: str, text: str) -> str:
 
 
 def format_sums(sums: Row) -> Iterator[str]:
-    """The lines of all metrics but build_info, those of METRICS also under their old names."""
+    """The lines of all metrics but build_info."""
     yield format_header("requests_total", "counter", "Requests that were answered, by endpoint and status.")
     for name, counts in zip(ENDPOINT_NAMES, sums.requests):
         for status, count in zip(STATUSES, counts):
@@ -112,8 +109,6 @@ def format_sums(sums: Row) -> Iterator[str]:
                 yield f'domethyme_request_seconds_bucket{{{label},le="{bound}"}} {total:.0f}'
             yield f"domethyme_request_seconds_sum{{{label}}} {seconds:.6f}"
             yield f"domethyme_request_seconds_count{{{label}}} {totals[-1]:.0f}"
-    for name, kind, text, old_name in METRICS:
-        for shown, shown_text in ((name, text), (old_name, f"The same as domethyme_{name}, for one version.")):
-            if shown:
-                yield format_header(shown, kind, shown_text)
-                yield f"domethyme_{shown} {getattr(sums, name):.15g}"
+    for name, kind, text in METRICS:
+        yield format_header(name, kind, text)
+        yield f"domethyme_{name} {getattr(sums, name):.15g}"

@@ -6,7 +6,7 @@ from typing import TYPE_CHECKING
 
 import numpy as np
 
-from domethyme import LibraryNotFound, batch
+from domethyme import batch
 from domethyme.batch import Summer
 from domethyme.csv_tables import excerpt
 from domethyme.network.alternatives import MAX_ALTERNATIVES
@@ -102,10 +102,7 @@ class Queries:
         if router is None:
             raise not_implemented("reverse=true isn't supported: the service was started without --towards")
         self._count(1, Work.REACH, self.nodes)
-        try:
-            return batch.reach(router, starts, limit)
-        except LibraryNotFound as error:
-            raise not_implemented("the service's library is too old for isochrones") from error
+        return batch.reach(router, starts, limit)
 
     def lengths(self, pairs: Sequence[Pair]) -> list[int]:
         """The length of a shortest path of each pair, NO_PATH if there is none."""
@@ -127,8 +124,6 @@ class Queries:
         """The same, and what each of these sums to along a path of that length, in thousandths: "duration" or "distance"."""
         found = list[Ints]()
         for name in names:
-            if name not in self.summers:
-                raise not_implemented("the service's library is too old for these annotations")
             self._count(len(sources), Work.SUM, len(sources) * len(targets))
             lengths, sums = self.summers[name].table(sources, targets)
             found += [sums] if found else [lengths, sums]

@@ -7,12 +7,11 @@ import pathlib
 import signal
 import stat
 import sys
-from collections.abc import Callable, Iterable, Iterator, Mapping
+from collections.abc import Callable, Iterable, Iterator
 from typing import IO, TYPE_CHECKING, Any, NoReturn
 
 from domethyme import belonging
 from domethyme.csv_tables import escape_formula
-from domethyme.deprecated import current_options
 from domethyme.errors import DomethymeError, FileError
 
 if TYPE_CHECKING:
@@ -82,15 +81,6 @@ def argument_parser(doc: str | None, *examples: str) -> argparse.ArgumentParser:
     which `%(prog)s` is the name that it was called by."""
     epilog = "\n  ".join(["examples:", *examples]) if examples else None
     return argparse.ArgumentParser(description=doc, epilog=epilog, formatter_class=argparse.RawDescriptionHelpFormatter)
-
-
-def current_arguments(renamed: Mapping[str, str]) -> list[str]:
-    """The arguments of this call, with options by an old word as they are called now: a line says so for each. The old
-    words go with the next version."""
-    arguments, lines = current_options(sys.argv[1:], renamed)
-    for line in lines:
-        warn(line)
-    return arguments
 
 
 def add_hierarchy(parser: argparse.ArgumentParser, option: str = "--hierarchy", what: str = "its hierarchy") -> None:

@@ -49,15 +49,13 @@ from domethyme.network.sphere import Floats
 from domethyme.network.tables import KEY, Side, is_coordinates, paths_of
 
 from .cli import (
-    ToolError, add_hierarchy, argument_parser, current_arguments, need_hierarchy, refuse_overwriting, warn, write_rows
+    ToolError, add_hierarchy, argument_parser, need_hierarchy, refuse_overwriting, warn, write_rows
 )
 from .on_roads import open_road_index, request_lines
 
 SIDES: tuple[Side, Side] = ("from", "to")
 PREFIXES, NO_PREFIXES = ("from_", "to_"), ("", "")
 SWAPPED = "are longitude and latitude swapped?"
-# The old words of --radius.
-OLD_RADIUS = {"--within": "--radius", "--max-distance": "--radius"}
 
 
 def parse_args() -> argparse.Namespace:
@@ -76,7 +74,7 @@ def parse_args() -> argparse.Namespace:
     parser.add_argument("--snapped", metavar="FILE", help="write the table of trips with their nodes too")
     parser.add_argument("--on-roads", action="store_true", help="write lines for routecli serve, with places on roads")
     add_hierarchy(parser)
-    options = parser.parse_args(current_arguments(OLD_RADIUS))
+    options = parser.parse_args()
     if options.on_roads and (options.matrix or options.skip_far or options.snapped):
         parser.error("--on-roads goes with neither --matrix, --skip-far nor --snapped")
     if is_coordinates(options.trips) and not options.matrix:

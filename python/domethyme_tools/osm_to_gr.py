@@ -52,10 +52,8 @@ from domethyme.network.tables import ALL_ARC_COLUMNS, OSM_ATTRIBUTION
 from domethyme.opening import prefix_fault
 from domethyme.progress import reporting
 
-from .cli import argument_parser, current_arguments, refuse_overwriting
+from .cli import argument_parser, refuse_overwriting
 
-# Options by their old words.
-RENAMED = {"--islands": "--keep-islands", "--free-turns": "--ignore-turn-restrictions"}
 
 
 def longest_arc(text: str) -> float:
@@ -90,7 +88,7 @@ def parse_args() -> argparse.Namespace:
                         help="refuse a map of whose nodes less than this share, from 0 to 1, is kept (0)")
     parser.add_argument("--attribution", default=OSM_ATTRIBUTION, metavar="TEXT",
                         help="the attribution that maps of the network show; empty for none (%(default)s)")
-    options = parser.parse_args(current_arguments(RENAMED))
+    options = parser.parse_args()
     if fault := prefix_fault(options.out):
         parser.error(f"OUT {fault}")
     refuse_overwriting(parser, outputs_of(options.out, chosen(options)), [options.map, options.profile])

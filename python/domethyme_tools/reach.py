@@ -26,8 +26,8 @@ from domethyme.atomic_files import atomic_write
 from domethyme.network.isochrones import COLOR, Shape
 from domethyme.network.tables import paths_of
 
-from .cli import ToolError, add_compare_all, argument_parser, current_arguments, refuse_overwriting
-from .nearest import NO_PREFIXES, OLD_RADIUS, add_radius, distance, read_trips
+from .cli import ToolError, add_compare_all, argument_parser, refuse_overwriting
+from .nearest import NO_PREFIXES, add_radius, distance, read_trips
 
 SHAPES: tuple[Shape, ...] = ("polygons", "lines", "roads")
 
@@ -53,7 +53,7 @@ def parse_args() -> argparse.Namespace:
     parser.add_argument("--colors", metavar="LIST", type=colours, default=[], help="six hexadecimal digits for each number")
     add_radius(parser, "road")
     add_compare_all(parser)
-    options = parser.parse_args(current_arguments(OLD_RADIUS))
+    options = parser.parse_args()
     if options.colors and len(options.colors) != len(options.minutes or options.metres or (5, 10, 15)):
         parser.error("--colors has to have a colour for each number")
     refuse_overwriting(parser, [options.output], [options.places, options.hierarchy, *paths_of(options.network)])

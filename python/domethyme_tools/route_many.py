@@ -37,7 +37,7 @@ from domethyme.program import find_program
 
 from . import parts
 from .cli import (
-    ToolError, add_hierarchy, argument_parser, current_arguments, display_name, file_at, need_hierarchy, require_packages, warn
+    ToolError, add_hierarchy, argument_parser, display_name, file_at, need_hierarchy, require_packages, warn
 )
 
 if TYPE_CHECKING:
@@ -48,8 +48,6 @@ BLOCK = 1 << 20
 LOOK_AGAIN_SECONDS = 2
 SILENT_SECONDS = 3
 SCHEDULER_IS_GONE = (concurrent.futures.CancelledError, OSError)
-# Options by their old words.
-RENAMED = {"--anew": "--restart", "--part": "--pairs-per-part", "--cut": "--split-only"}
 
 
 def parse_args() -> argparse.Namespace:
@@ -66,7 +64,7 @@ def parse_args() -> argparse.Namespace:
     parser.add_argument("--program", metavar="FILE", help="routecli, where it isn't on PATH, in ROUTECLI or built here")
     parser.add_argument("--restart", action="store_true", help="drop what an earlier call has left for OUT")
     add_hierarchy(parser, "--network", "the network of the pairs")
-    return parser.parse_args(current_arguments(RENAMED))
+    return parser.parse_args()
 
 
 def positive_int(text: str) -> int:

@@ -43,8 +43,8 @@ from domethyme.network.node_index import NodeIndex
 from domethyme.network.tables import Side, paths_of
 from domethyme.protocol import FAR, NO_PATH
 
-from .cli import ToolError, add_compare_all, argument_parser, current_arguments, refuse_overwriting
-from .nearest import OLD_RADIUS, Trips, add_radius, begins_of, nodes_at, read_places, too_far_error
+from .cli import ToolError, add_compare_all, argument_parser, refuse_overwriting
+from .nearest import Trips, add_radius, begins_of, nodes_at, read_places, too_far_error
 from .on_roads import open_road_index, snap_places
 
 # Lengths between nodes that are asked for together, 8 bytes each.
@@ -68,7 +68,7 @@ def parse_args() -> argparse.Namespace:
     add_radius(parser, "node, or road")
     parser.add_argument("--on-roads", action="store_true", help="take places on roads, and not at nodes")
     add_compare_all(parser)
-    options = parser.parse_args(current_arguments(OLD_RADIUS))
+    options = parser.parse_args()
     if options.sources == options.targets == "-":
         parser.error("SOURCES and TARGETS can't both be standard input")
     inputs = [options.sources, options.targets, options.hierarchy, *paths_of(options.network)]

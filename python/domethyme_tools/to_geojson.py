@@ -63,7 +63,7 @@ from domethyme.network.tables import paths_of
 from domethyme.protocol import NO_PATH, RouterResult
 
 from .cli import (
-    ToolError, add_hierarchy, argument_parser, current_arguments, need_hierarchy, refuse_overwriting, write_rows
+    ToolError, add_hierarchy, argument_parser, need_hierarchy, refuse_overwriting, write_rows
 )
 from .on_roads import open_road_index, routes_on_roads
 
@@ -89,7 +89,7 @@ def parse_args() -> argparse.Namespace:
     parser.add_argument("--no-steps", action="store_true", help="leave out the steps")
     parser.add_argument("--on-roads", action="store_true", help="ANSWERS are replies to lines of nearest --on-roads")
     add_hierarchy(parser)
-    options = parser.parse_args(current_arguments({"--as": "--format"}))
+    options = parser.parse_args()
     inputs = [options.answers, options.trips, options.hierarchy, *paths_of(options.network)]
     refuse_overwriting(parser, [options.output], inputs)
     if options.on_roads and (options.trips is None or options.format == "csv"):

@@ -124,7 +124,7 @@ def test_the_library_is_looked_for_before_the_work(tmp_path):
 
 
 def test_all_that_is_public_has_a_docstring():
-    others = "Any LATER RENAMED TYPE_CHECKING need open warn_renamed".split()
+    others = "Any LATER TYPE_CHECKING need open".split()
     public = {name for name in dir(domethyme) if name[0] != "_" and not isinstance(getattr(domethyme, name), types.ModuleType)}
     assert {*domethyme.__all__, *others} == public
     for name in {*domethyme.__all__} - {"NO_PATH"}:

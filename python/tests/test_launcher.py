@@ -41,5 +41,5 @@ class FolderTests(ServiceCase):
         self.addCleanup(os.chdir, os.getcwd())
         os.chdir(self.folder)
         self.assertEqual(subprocess.run([TOOLS / "nearest", "--help"], stdout=subprocess.DEVNULL).returncode, 0)
-        self.serve("--fronts", "2", "--network", self.folder / "v")
+        self.serve("--workers", "4", "--network", self.folder / "v")
         self.assertEqual(self.ask("/health")[0], 200)

@@ -11,7 +11,6 @@ from reach_case import Road, lengths, network, prepared
 from shapely.geometry import Point
 
 import domethyme
-from domethyme import library
 from domethyme.network import isochrones, net_file
 from domethyme.network.contours import contours
 from domethyme.network.reach import Reach
@@ -111,13 +110,6 @@ def test_a_file_that_is_read_again(tmp_path, monkeypatch, change, ask, why):
     for each in (asked, late):
         with pytest.raises(ValueError, match="row.rch is closed"):
             each.reach(["d"], towards=True)
-
-
-def test_an_older_library(row, monkeypatch):
-    """The error for a call that the library lacks says what to do."""
-    monkeypatch.setitem(library.LATER_ARGUMENTS, "reached_by_nobody", [])
-    with pytest.raises(domethyme.LibraryNotFound, match="older than this package, and has no domethyme_reached_by_nobody"):
-        library.load_later_call("reached_by_nobody")
 
 
 @pytest.mark.parametrize("words, says", [

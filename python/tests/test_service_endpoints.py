@@ -118,12 +118,6 @@ class EndpointTests(ServiceCase):
         self.assertEqual([fits(value, shapes["Health"], shapes) for value in (health, *others)], [True, *[False] * 5])
 
 
-# The old names of metrics.
-OLD = {
-    "fronts": "workers", "questions_total": "queries_total", "front_restarts_total": "worker_restarts_total",
-    "front_silences_total": "worker_timeouts_total", "reloads_refused_total": "reload_failures_total",
-    "work_stopped_total": "requests_cancelled_total"
-}
 BOUNDS = "0.001 0.0025 0.005 0.01 0.025 0.05 0.1 0.25 0.5 1.0 2.5 5.0 10.0 30.0".split()
 
 
@@ -141,7 +135,6 @@ def test_metrics_of_several_processes():
     values = dict(line.removeprefix("domethyme_").rsplit(" ", 1) for line in text.splitlines() if line[0] != "#")
     assert float(values.pop("resident_memory_bytes")) == pytest.approx(1024 * resident(os.getpid()), rel=0.1)
     wanted = {**{name: 3 * count for name, count in counts.items() if name != "resident_memory_bytes"}, "nodes": 7, "build_info{}": 1}
-    wanted |= {old: wanted[name] for old, name in OLD.items()}
     wanted |= {f'request_seconds_bucket{{endpoint="/table",le="{bound}"}}': at for at, bound in enumerate([*BOUNDS, "+Inf"], 1)}
     wanted |= {f'request_seconds_{name}{{endpoint="/table"}}': each for name, each in (("count", 15), ("sum", "79.943500"))}
     wanted |= {f'requests_total{{endpoint="/table",status="{status}"}}': count for status, count in ((200, 14), (503, 1))}

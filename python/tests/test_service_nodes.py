@@ -89,7 +89,7 @@ class NodesTests(ServiceCase):
         size = int(self.headers["Content-Length"])
         counted = 'requests_total{endpoint="/nodes/length",status="200"}'
         self.wait_for(lambda: counted in self.ask("/metrics")[1])  # (an answer is counted once it has gone)
-        self.assertEqual([self.value(name) for name in (counted, "questions_total", "nodes")], [1, 1, self.graph.nodes])
+        self.assertEqual([self.value(name) for name in (counted, "queries_total", "nodes")], [1, 1, self.graph.nodes])
         self.assertEqual(self.headers["Content-Type"], "text/plain; version=0.0.4; charset=utf-8")
         self.ask("/nodes/length?from=1&to=0")
         text = self.ask("/metrics")[1]
@@ -98,7 +98,7 @@ class NodesTests(ServiceCase):
         told = re.findall(r'(?m)^domethyme_request_seconds_(?:bucket|count){endpoint="/nodes/length".*} (\d+)$', text)
         # (each bucket has those of the ones before it, and the last has all)
         self.assertEqual((len(told), told, told[-2:]), (16, sorted(told, key=int), told[-1:] * 2))
-        least = {"resident_memory_bytes": 1 << 20, "last_reload_timestamp_seconds": time.time() - 1000, "workers": 4, "fronts": 4}
+        least = {"resident_memory_bytes": 1 << 20, "last_reload_timestamp_seconds": time.time() - 1000, "workers": 4}
         self.assertEqual([name for name, each in least.items() if self.value(name) < each], [])
         version = re.search(r'(?m)^version = "(.*)"', (ROOT / "python/pyproject.toml").read_text())[1]
         versions = f'version="{version}",python="{platform.python_version()}",gunicorn="{gunicorn.__version__}"'
@@ -121,12 +121,9 @@ def test_what_can_not_start(run, tmp_path, monkeypatch, program):
         assert run(*program, *words, "--port", "0", status=1).startswith(f"domethyme-serve: {says}")
 
 
-# (some by their old names)
-WORDS = "--network net --checked g.gr --towards --exclude toll=a=b.rch --exclude ferry=c.rch --within 6 --default-radius 7 --fronts 5 "
-WORDS += "--table-cells 9 --tables fast --profile car --profile van --allowed-host A.org --allowed-host b --cors a://B:80 --log-places"
+WORDS = "--network net --verify g.gr --towards --exclude toll=a=b.rch --exclude ferry=c.rch --radius 7 --workers 5 "
+WORDS += "--max-table-cells 9 --profile car --profile van --allowed-host A.org --allowed-host b --cors a://B:80 --log-places"
 EXCLUDED = {frozenset({"toll"}): "a=b.rch", frozenset({"ferry"}): "c.rch"}
-RENAMED = ["checked is now --verify", "within is now --radius", "default-radius is now --radius", "fronts is now --workers",
-           "table-cells is now --max-table-cells"]
 
 
 @pytest.mark.parametrize("words, paths, options, more, says", [
@@ -134,9 +131,7 @@ RENAMED = ["checked is now --verify", "within is now --radius", "default-radius 
      Options(AccessPolicy(frozenset({"*", "[::1]"}), "none"), 1000, 1_000_000, []), (4, True, False),
      ["domethyme-serve: --workers 2: takes 4, the least, since a long request holds one"]),
     (WORDS, DatasetPaths("a.rch", "net", "g.gr", find_program(), False, True, EXCLUDED),
-     Options(AccessPolicy(frozenset({"a.org", "b"}), "a://b:80"), 7, 9, ["car", "van"]), (5, True, True),
-     ["domethyme-serve: --tables goes with the next version: leave it out, since all tables are proved",
-      *(f"domethyme-serve: --{each}; the old word goes with the next version" for each in RENAMED)]),
+     Options(AccessPolicy(frozenset({"a.org", "b"}), "a://b:80"), 7, 9, ["car", "van"]), (5, True, True), []),
 ], ids=["one", "others"])
 def test_what_the_options_start(words, paths, options, more, says, capsys):
     with mock.patch.multiple(command, Application=mock.DEFAULT, open_sockets=mock.DEFAULT) as patched:
@@ -164,9 +159,6 @@ def test_numbers_of_options(option, low, high):
     ("--exclude toll=a --exclude toll=b", "the same classes twice"), ("--cors example.org", "an origin is SCHEME://HOST"),
     ("--cors a://b/", "an origin is"), ("--cors https://", "an origin is"), ("--cors a://b?c", "an origin is"),
     *((f"--allowed-host {host}", "a host is a name or an address") for host in ("a:80", "*.a", "https://a", "[::1", "a/")),
-    ("--connections 9", "--connections is no longer an option: use worker_connections"),
-    ("--client-connections 9", "--client-connections is no longer an option: use limit_conn"),
-    ("--head-seconds 9", "--head-seconds is no longer an option: use client_header_timeout"),
     *((f"--{words}", "packaging/nginx/domethyme.conf") for words in (
         "host 0.0.0.0", "host ::", "host 192.0.2.1", "bind 0.0.0.0:5000", "bind unix:")),
 ])

@@ -81,7 +81,7 @@ class RequestTests(OsrmCase):
 
     def test_options(self):
         """Cells of a table, metres to a road, the words that PROFILE may be, which may be any without, and places in the log."""
-        words = ["--table-cells", "5", "--radius", "70", "--profile", "car", "--profile", "driving", "--log-places"]
+        words = ["--max-table-cells", "5", "--radius", "70", "--profile", "car", "--profile", "driving", "--log-places"]
         self.serve("--network", self.folder / "v", *words)
         self.assertIn("no road within 70 m of place 0", self.ask("/nearest/v1/car/-0.0025,0.001")[1]["message"])
         self.good(f"/table/v1/car/{HIGH};0.001,0;0.002,0;0.003,0?destinations=1")

@@ -12,7 +12,6 @@ from numpy.typing import NDArray
 
 from .. import belonging
 from ..arrays import places_of
-from ..deprecated import radius_of, side_of
 from ..errors import NetworkError, NoSuchNode
 from ..extras import load
 from ..keys import Keys, parse_keys
@@ -134,29 +133,29 @@ class Network:
 
     @overload
     def nearest(
-        self, lon: float, lat: float, side: Side | bool = "from", *, radius: float = DEFAULT_RADIUS, end: bool | None = None
+        self, lon: float, lat: float, side: Side = "from", *, radius: float = DEFAULT_RADIUS
     ) -> tuple[int, float]: ...
     @overload
     def nearest(
-        self, lon: Rows, lat: Rows, side: Side | bool = "from", *, radius: float = DEFAULT_RADIUS, end: bool | None = None
+        self, lon: Rows, lat: Rows, side: Side = "from", *, radius: float = DEFAULT_RADIUS
     ) -> tuple[NDArray[np.int64], Floats]: ...
-    def nearest(
-        self, lon: Any, lat: Any, side: Side | bool = "from", *, radius: float = DEFAULT_RADIUS, end: bool | None = None
-    ) -> tuple[Any, Any]:
+    def nearest(self, lon: Any, lat: Any, side: Side = "from", *, radius: float = DEFAULT_RADIUS) -> tuple[Any, Any]:
         """The node nearest to each place, from 0, and how many metres away it is along the great circle, on a sphere of
         6,371,008.8 m: of those where routes may begin, or with side="to" of those where they may end, which differ at
         junctions with turn restrictions. Two numbers give an int and a float, two arrays of one shape give two arrays of that shape.
         Raises NoSuchNode where none is within `radius` metres, and ValueError for what are no degrees."""
         radius = as_number("radius", radius)
+        if side not in ("from", "to"):
+            raise ValueError(f"side has to be from or to, and is {side!r}")
         east, north = np.asarray(lon, float), np.asarray(lat, float)
         if east.ndim and north.ndim and east.shape != north.shape:
             raise ValueError(f"there are {east.size} values of lon and {north.size} of lat")
         east, north = np.broadcast_arrays(east, north)
         check_degrees(east, north)
-        nodes, away = self.node_index.nearest(east.ravel(), north.ravel(), side_of(side, end))
+        nodes, away = self.node_index.nearest(east.ravel(), north.ravel(), side)
         for place in np.flatnonzero(~(away <= radius))[:1].tolist():
             other_lon, other_lat = north.ravel()[[place]], east.ravel()[[place]]
-            swapped = abs(other_lat[0]) <= 90 and self.node_index.nearest(other_lon, other_lat, side_of(side, end))[1][0] <= radius
+            swapped = abs(other_lat[0]) <= 90 and self.node_index.nearest(other_lon, other_lat, side)[1][0] <= radius
             raise too_far("node", place, float(away[place]), radius, bool(swapped))
         if east.ndim == 0:
             return int(nodes[0]), float(away[0])
@@ -260,7 +259,7 @@ class Network:
 
     def points_on_roads(
         self, places: Rows, radius: float = DEFAULT_RADIUS, *, bearings: Bearings = None, radiuses: Sequence[float | None] | None = None,
-        snapping: Snapping = "default", approaches: Approaches = None, max_metres: float | None = None
+        snapping: Snapping = "default", approaches: Approaches = None
     ) -> list[SnappedPoint]:
         """The nearest point of a road to a place (lon, lat) in degrees, or to each of several: rows, a frame with the columns lon and
         lat, or points of shapely or geopandas.
@@ -274,7 +273,7 @@ class Network:
 
         Raises NoSuchNode where no such road is near enough, ValueError for what are no degrees, and NetworkError.
         """
-        radius = as_number("radius", radius_of(radius, max_metres, "points_on_roads(max_metres=)"))
+        radius = as_number("radius", radius)
         rows = places_of(places)
         if not len(rows):
             raise ValueError("there has to be a place or more")

@@ -33,7 +33,7 @@ from domethyme.network.from_tables import load_network_or_dimacs
 from domethyme.network.tables import paths_of
 from domethyme.progress import reporting
 
-from ..cli import argument_parser, current_arguments, display_name, refuse_overwriting, warn
+from ..cli import argument_parser, display_name, refuse_overwriting, warn
 from .page import page_of
 
 PICTURE, PAGE = ".svg", ".html"
@@ -54,7 +54,7 @@ def parse_args() -> argparse.Namespace:
     parser.add_argument("--full-network", action="store_true", help="the whole network, and not only around the routes")
     parser.add_argument("--tiles", metavar="URL", help="a background for the page, such as https://../{z}/{x}/{y}.png")
     parser.add_argument("--attribution", metavar="TEXT", help="shown beside the network's own, such as that of the tiles")
-    options = parser.parse_args(current_arguments({"--whole": "--full-network"}))
+    options = parser.parse_args()
     if not options.output.endswith((PICTURE, PAGE)):
         parser.error(f"OUT ends neither in {PICTURE} nor in {PAGE}")
     if options.output.endswith(PAGE) and options.width is not None:
