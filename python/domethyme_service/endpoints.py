@@ -1,6 +1,6 @@
 """The table of endpoints: what each is asked by, what answers it, its limits and what it costs. Requests are dispatched by it, counted
-by it, and docs/SERVICE.md has what `python3 -m domethyme_service.endpoints` prints, as docs/openapi.json has what `openapi`
-makes of it. An endpoint is added here alone, and its parameters in `parameters`."""
+by it, docs/SERVICE.md has what `python3 -m domethyme_service.endpoints` prints, and `openapi` makes its document of it. An endpoint
+is added here alone, and its parameters in `parameters`."""
 import enum
 import functools
 import math

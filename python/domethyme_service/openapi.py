@@ -1,4 +1,4 @@
-"""The API in OpenAPI's form 3.0.3, for programs that make clients: `python3 -m domethyme_service.openapi` prints docs/openapi.json. It is
+"""The API in OpenAPI's form 3.0.3, for programs that make clients: `python3 -m domethyme_service.openapi` prints it. It is
 made of the table of endpoints, and of the shapes of answers, which endpoints name."""
 import json
 import re

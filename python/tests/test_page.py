@@ -334,7 +334,7 @@ def columns_of(data: bytes) -> tuple[dict, dict[str, np.ndarray]]:
 
 @pytest.mark.needs("chromium")
 def test_the_documents_routes_are_right(browser):
-    """By a plain search of the network that is in the page, which tests/manual/page_anew compares with a new one."""
+    """By a plain search of the network that is in the page, which packaging/page_anew compares with a new one."""
     assert DOCUMENT.stat().st_size < 1_000_000
     about, columns = columns_of(unpacked(DOCUMENT.read_text(encoding="utf-8"), "network"))
     starts = np.cumsum(columns["arcFrom"])

@@ -3,7 +3,7 @@ import subprocess
 import sys
 
 import pytest
-from tool_case import MANUAL, PYTHON, ROOT
+from tool_case import PYTHON, ROOT
 
 
 def scripts(folder):
@@ -17,9 +17,9 @@ def is_python(path):
 
 
 STRICT = ("mypy", "--strict", "--cache-dir=/dev/null", "--scripts-are-modules")
-# What pyproject.toml has mypy look at, and the checks by hand that are made of the same packages.
+# What pyproject.toml has mypy look at, and a script that is made of the same packages.
 PACKAGES = ("domethyme", "domethyme_service", "domethyme_tools", "domethyme_launcher.py", "domethyme_part.py")
-CHECKS = [*(MANUAL / name for name in ("compare_converters", "compare_turns")), ROOT / "packaging/container/domethyme-container"]
+CHECKS = [ROOT / "packaging/container/domethyme-container"]
 KIT = sorted((ROOT / "tests/kit").glob("*.py"))
 FOLDERS = [PYTHON / "tests", ROOT / "packaging", ROOT / "packaging/container", ROOT / "packaging/web", ROOT / "bench", *sorted((ROOT / "tests").glob("[a-z]*/"))]
 
