@@ -16,7 +16,6 @@ from domethyme.network.columns import COLUMNS
 HERE = pathlib.Path(__file__).resolve().parent
 ROOT = HERE.parents[1]
 PYTHON, TOOLS = ROOT / "python", ROOT / "tools"
-MANUAL = ROOT / "tests/manual"
 VILLAGE = HERE / "village.osm"
 
 # The columns of a network that are in its tables, or made of them
@@ -51,9 +50,8 @@ class ToolCase(unittest.TestCase):
         self.addCleanup(shutil.rmtree, self.folder)
 
     def run_tool(self, tool, *words, status=0, given=None, environment=None):
-        """Runs a tool, or a script of tests/manual, with `given` as its standard input; it has to end with the status."""
-        folder = TOOLS if (TOOLS / tool).exists() else MANUAL
-        return self.run_program([folder / tool, *words], status, given, environment)
+        """Runs a tool with `given` as its standard input; it has to end with the status."""
+        return self.run_program([TOOLS / tool, *words], status, given, environment)
 
     def run_program(self, words, status=0, given=None, environment=None):
         stdin = {"stdin": subprocess.DEVNULL} if given is None else {"input": given}
