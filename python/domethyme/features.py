@@ -1,8 +1,10 @@
 """What is drawn on a network, as GeoJSON, as frames of geopandas, and as a picture in a notebook."""
 import json
+from collections.abc import Sequence
 from typing import TYPE_CHECKING, Any
 
 from .extras import load
+from .network.geo import Point, to_geojson_geometry
 
 if TYPE_CHECKING:
     from .network.network import Network
@@ -31,6 +33,11 @@ class Features(dict[str, Any]):
 
     def _repr_html_(self) -> str:
         return picture(self.network, self["features"])
+
+
+def route_feature(properties: dict[str, Any], line: Sequence[Point] | None) -> dict[str, Any]:
+    """The Feature of a route, with its line in parts where it crosses the 180th meridian; without a geometry where there is no line."""
+    return {"type": "Feature", "properties": properties, "geometry": None if line is None else to_geojson_geometry(line)}
 
 
 def picture(network: "Network", features: list[Any], left_out: int = 0) -> str:

@@ -12,12 +12,12 @@ from typing import TYPE_CHECKING, Any, NamedTuple
 import numpy as np
 
 from ..batch import Summer, table
-from ..features import picture
+from ..features import picture, route_feature
 from ..protocol import RouterResult
 from ..router import Router
 from .alternatives import Reached
 from .alternatives import alternatives as other_legs
-from .geo import Point, to_geojson_geometry
+from .geo import Point
 from .groups import Ints
 from .leg_geometry import MICRODEGREES, RouteGeometry, leg_totals
 from .leg_tables import table_rows, weight_rows
@@ -88,7 +88,7 @@ class Directions(NamedTuple):
         properties: dict[str, Any] = {"weight": self.weight, "seconds": self.seconds, "metres": self.metres}
         if self.attribution:
             properties["attribution"] = self.attribution
-        return {"type": "Feature", "properties": properties, "geometry": to_geojson_geometry(self.line)}
+        return route_feature(properties, self.line)
 
     @property
     def __geo_interface__(self) -> dict[str, Any]:

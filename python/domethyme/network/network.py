@@ -14,6 +14,7 @@ from .. import belonging
 from ..arrays import places_of
 from ..errors import NetworkError, NoSuchNode
 from ..extras import load
+from ..features import route_feature
 from ..keys import Keys, parse_keys
 from ..limits import DEFAULT_RADIUS, MAX_DEVIATION
 from ..links import Links
@@ -23,7 +24,7 @@ from ..routes import Routes
 from . import from_tables, net_file
 from .bearings import Approach, BearingRange, at_curb, nearest_by_approach
 from .columns import ENDS, NO_OSM, OF_ARCS, UNITS
-from .geo import Point, to_geojson_geometry
+from .geo import Point
 from .matching import Trace
 from .node_index import NodeIndex, load_node_index
 from .reweigh import Reweighed, read_speeds, speeds_of, write_reweighed
@@ -182,7 +183,7 @@ class Network:
 
     def _feature(self, ends: tuple[Any, Any], length: int | None, numbers: list[int], added: int) -> dict[str, Any]:
         properties = {"from": ends[0], "to": ends[1], "length": None, "arcs": None, "seconds": None, "metres": None}
-        geometry = None
+        line = None
         if length is not None:
             arcs, arrays = self._arcs(numbers), self._arrays
             weight = int(arrays.arc_weight[arcs].sum()) if arcs else 0
@@ -192,8 +193,8 @@ class Network:
             ways = [sum(values[arcs].tolist()) if arcs else 0.0 for values in (arrays.arc_seconds, arrays.arc_metres)]
             seconds = round(ways[0], 3) if arrays.has_seconds else None
             properties.update(length=length, arcs=len(arcs), seconds=seconds, metres=round(ways[1], 2))
-            geometry = to_geojson_geometry(self.line(numbers))
-        return {"type": "Feature", "properties": properties, "geometry": geometry}
+            line = self.line(numbers)
+        return route_feature(properties, line)
 
     def _arcs(self, nodes: "list[int]") -> list[int]:
         """The lightest arc from each of the nodes, from 0, to the next."""
