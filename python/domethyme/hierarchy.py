@@ -346,7 +346,7 @@ class Hierarchy:
     def directions(
         self, places: Any, *, radius: float = DEFAULT_RADIUS, bearings: "Bearings" = None, radiuses: Sequence[float | None] | None = None,
         snapping: "Snapping" = "default", approaches: "Approaches" = None, waypoints: Sequence[int] | None = None,
-        continue_straight: bool = False
+        continue_straight: bool = False, turns: bool = False
     ) -> "Directions | None":
         """The Directions by two or more places in degrees in their order: a shortest path from each to the next, between the nearest
         points of roads, each of which leaves its place in either direction. None if there is no path. Needs the network.
@@ -357,6 +357,7 @@ class Hierarchy:
         waypoints   the places at which a leg begins or ends, numbers from 0 that rise: the first and the last place are among them; None
                     for all
         continue_straight   True: it goes on in its direction at each place within a road but the first and the last
+        turns       True: each leg has `turns` too, what to do in order, by the rules of the service's steps
 
         The service's `/route` answers the same. Raises NoSuchNode if a road isn't near enough, NetworkError for points on the roads
         of another network, and ValueError.
@@ -367,7 +368,7 @@ class Hierarchy:
         from .network import directions
 
         stops = None if waypoints is None else directions.stops_of(waypoints, len(points))
-        found = directions.directions(self._router, self._need_network().roads, points, stops, continue_straight)
+        found = directions.directions(self._router, self._need_network().roads, points, stops, continue_straight, turns)
         return None if found is None else found._replace(network=self.network)
 
     def alternatives(

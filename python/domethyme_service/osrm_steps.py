@@ -1,6 +1,4 @@
-"""The steps of a leg. A step begins where the name of the road changes, or a ferry, at a turn of more than 45 degrees at a junction, and
-at a roundabout, until after its exit. Types are depart, turn, new name, continue, roundabout and arrive. A step has the intersections
-that it passes."""
+"""The steps of a leg as JSON, by the rules of domethyme.network.steps. A step has the intersections that it passes."""
 import functools
 import itertools
 from collections.abc import Iterator, Sequence
@@ -10,22 +8,17 @@ import numpy as np
 from numpy.typing import NDArray
 
 from domethyme.network.columns import TEXTS
-from domethyme.network.groups import Ints, mask
-from domethyme.network.junctions import MIN_DEGREE, Junctions, junctions
+from domethyme.network.groups import Ints
+from domethyme.network.junctions import Junctions, junctions
 from domethyme.network.leg_geometry import RouteGeometry, Totals
-from domethyme.network.parallel import differs_from_previous
 from domethyme.network.snapping import RoadIndex
+from domethyme.network.steps import TURNS, RouteSteps
 
 from .json_text import Texts, join_array, point_texts, string_json
 from .osrm_geometry import line_string, polylines_json
 
-MIN_TURN_DEGREES = 45
-# The least degrees of each of MODIFIERS but the first, which has its words for turns to the left, and to the right.
-MODIFIER_LIMITS = (20, 45, 120, 170)
-MODIFIERS = [("straight", f"slight {side}", side, f"sharp {side}", "uturn") for side in ("left", "right")]
-KINDS = ("continue", "new name", "turn", "roundabout")
-# The first members of a maneuver, by kind, side and modifier.
-TURNS = [f'"type":"{kind}","modifier":"{modifier}"' for kind in KINDS for side in MODIFIERS for modifier in side]
+# The first members of a maneuver, by the numbers of TURNS.
+TURN_MEMBERS = [f'"type":"{kind}","modifier":"{modifier}"' for kind, modifier in TURNS]
 # The texts of bearings, from 0 to 360.
 BEARINGS = [*map(str, range(361))]
 DEPART, ARRIVE = '"type":"depart"', '"type":"arrive"'
@@ -59,57 +52,12 @@ class RoadTexts(NamedTuple):
         return cls(name, string_json(name), more)
 
 
-class StepBuilder:
-    """The steps of a route's legs, by their first arcs, and the texts of each arc and its bearings at both ends."""
+class StepBuilder(RouteSteps):
+    """The steps of a route's legs as JSON."""
 
     def __init__(self, geometry: RouteGeometry) -> None:
-        self.geometry, self.roads = geometry, geometry.roads
-        self.rows = self.roads.arrays.arc_row[geometry.arcs]
-        self.names = self.roads.arrays.row_texts[self.rows, NAME_COLUMNS[0]]
-        self.is_on_roundabout, self.is_on_ferry = self.roads.roundabout_rows[self.rows], self.roads.ferry_rows[self.rows]
-        self.first_bearings, self.last_bearings = geometry.bearings
-        self.starts = geometry.starts
+        super().__init__(geometry)
         self.modes = [mode_json(self.roads, is_ferry) for is_ferry in (False, True)]
-        self.is_junction = self._are_junctions()
-        self.begins = self._is_first().nonzero()[0]
-        self.ends = np.append(self.begins[1:], len(geometry.arcs))
-        self.is_leg_first = mask(len(geometry.arcs) + 1, geometry.first)[self.begins]
-        # (a step that enters a roundabout is named after the first arc behind it)
-        self.named = self.begins.copy()
-        self.roundabouts: list[int] = (self.is_on_roundabout[self.begins] & ~self.is_leg_first).nonzero()[0].tolist()
-        for step in self.roundabouts:
-            behind = np.flatnonzero(~self.is_on_roundabout[self.begins[step] : self.ends[step]])
-            self.named[step] += behind[0] if len(behind) else 0
-
-    def _are_junctions(self) -> NDArray[np.bool_]:
-        """Whether three edges or more meet where each arc begins; nodes that restrictions split are one junction."""
-        arrays, firsts = self.roads.arrays, self.geometry.first
-        found = arrays.degree(self.starts) >= MIN_DEGREE
-        is_split = ~found & (arrays.node_ends[self.starts] != 0)
-        is_split[self.geometry.joints] = is_split[firsts[firsts < len(found)]] = False
-        if is_split.any():
-            arcs = np.flatnonzero(is_split)
-            found[junctions(self.geometry, arcs, np.zeros(len(arcs), bool)).arcs] = True
-        return found
-
-    def _is_first(self) -> NDArray[np.bool_]:
-        """Whether a step begins with each arc."""
-        geometry, names, is_round = self.geometry, self.names, self.is_on_roundabout
-        turns = (self.first_bearings[1:] - self.last_bearings[:-1] + 180) % 360 - 180
-        is_turn = self.is_junction[1:] & (np.abs(turns) > MIN_TURN_DEGREES)
-        # (at a point within a road a leg goes on, or turns round)
-        joints, is_along = geometry.joints, geometry.are_along
-        is_turn[joints - 1] = is_along[joints] != is_along[joints - 1]
-        is_new = differs_from_previous(names) | differs_from_previous(self.is_on_ferry)
-        is_new[1:] |= is_turn
-        if is_round.any():  # (a step begins before a roundabout, but not on it or after it)
-            is_free = np.append(True, ~is_round[:-1])
-            for first, behind in itertools.pairwise(geometry.first.tolist()):
-                if first < behind and is_round[first]:  # (the leg begins on this one, so no step has entered it)
-                    is_free[first : first + 1 + int(np.argmin(is_round[first:behind]))] = True
-            is_new = np.where(is_round, np.append(True, ~is_round[:-1]), is_new & is_free)
-        is_new[geometry.first[:-1][geometry.first[:-1] < geometry.first[1:]]] = True
-        return is_new
 
     def steps(self, locations: Sequence[str], shapes: Sequence[str], passed: list[str]) -> tuple[list[str], list[RoadTexts]]:
         """The JSON of the steps without arrivals, from that of their beginnings, of their lines and of the junctions that they pass; and the
@@ -121,7 +69,7 @@ class StepBuilder:
         ways = self.modes_of(self.begins)
         for step in self.is_leg_first.nonzero()[0].tolist():
             passed[step] = f'{intersection_json(locations[step], after[step], "out")}{"," if passed[step] else ""}{passed[step]}'
-        return [*map(step_json, self.turns(), locations, before, after, roads, totals, shapes, passed, ways)], roads
+        return [*map(step_json, self.maneuvers(), locations, before, after, roads, totals, shapes, passed, ways)], roads
 
     def modes_of(self, arcs: NDArray[np.int64]) -> list[str]:
         """The members that say how one is on the way on some of the arcs."""
@@ -153,28 +101,15 @@ class StepBuilder:
         known = {row: RoadTexts.of(*(texts[some[column]] for column in NAME_COLUMNS)) for row, some in zip(different, numbers)}
         return [known[row] for row in rows]
 
-    def turns(self) -> list[str]:
+    def maneuvers(self) -> list[str]:
         """The first members of each step's maneuver: its type, its modifier, and the exit of a roundabout that it leaves."""
-        angles = (self.first_bearings[self.named] - self.last_bearings[self.begins - 1] + 180) % 360 - 180
-        is_same = self.names[self.begins - 1] == self.names[self.begins]
-        kinds = np.where(is_same, 0, np.where(np.abs(angles) > MIN_TURN_DEGREES, 2, 1))
-        kinds[self.roundabouts] = 3
-        modifiers = np.searchsorted(MODIFIER_LIMITS, np.abs(angles), side="right")
-        numbers = (kinds * 2 + (angles > 0)) * len(MODIFIERS[0]) + modifiers
-        found = [TURNS[number] for number in numbers.tolist()]
+        found = [TURN_MEMBERS[number] for number in self.turns]
         for step in self.is_leg_first.nonzero()[0].tolist():
             found[step] = DEPART
         for step in self.roundabouts:
-            found[step] += self.exit_member(step)
+            way_out = self.exit_of(step)
+            found[step] += "" if way_out is None else f',"exit":{way_out}'
         return found
-
-    def exit_member(self, step: int) -> str:
-        """The exit of the roundabout of a step, if it leaves that."""
-        begin, end, named = int(self.begins[step]), int(self.ends[step]), int(self.named[step])
-        if named == begin and self.is_on_roundabout[end - 1]:
-            return ""
-        nodes = self.roads.arrays.arc_to[self.geometry.arcs[begin:named]].tolist()
-        return f',"exit":{1 + sum(self.roads.count_exits(node) for node in nodes[:-1])}'
 
 
 def intersection_texts(found: Junctions, locations: Sequence[str]) -> list[str]:

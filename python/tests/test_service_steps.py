@@ -104,6 +104,12 @@ def test_exits_of_a_roundabout(tmp_path: pathlib.Path, places: str, wanted: Any)
     roads = Network([Node(*spot) for spot in spots], arcs)
     _, step, _ = steps(tmp_path, Drawn(roads, roads, False), places)
     assert (step["maneuver"]["type"], step["maneuver"].get("exit"), step["name"]) == wanted
+    with domethyme.Hierarchy(tmp_path / "net.rch", network=tmp_path / "net") as hierarchy:
+        spots = [tuple(map(float, place.split(","))) for place in places.split(";")]
+        depart, turn, arrive = hierarchy.directions(spots, turns=True).turns
+        assert hierarchy.directions(spots).turns == []
+    assert (turn["type"], turn.get("exit"), turn["name"]) == wanted
+    assert (depart["type"], arrive["type"], arrive["metres"], depart["modifier"]) == ("depart", "arrive", 0, None)
 
 
 def test_annotations(tmp_path: pathlib.Path) -> None:

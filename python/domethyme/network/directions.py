@@ -25,6 +25,7 @@ from .legs import Leg, SnapEnds, find_leg, find_legs
 from .matching import Matched, Matcher, Trace
 from .parallel import differs_from_previous
 from .snapping import NAME, RoadIndex, SnappedPoint
+from .steps import instructions
 
 if TYPE_CHECKING:
     from .network import Network
@@ -35,8 +36,8 @@ NODE_CELLS = 1 << 22
 
 class RoadRoute(NamedTuple):
     """The route between two points on roads: its weight in the graph's unit, of how many arcs it has a part, its seconds, None where
-    the network has none, its metres, the streets with their metres and seconds, and its line (lon, lat), of two points or more.
-    All are None where there is no route. Its text in a session leaves out the line."""
+    the network has none, its metres, the streets with their metres and seconds, its line (lon, lat), of two points or more, and
+    `turns`, what to do in order, None unless that was asked for. Its text in a session leaves out the line."""
 
     weight: int | None = None
     arcs: int | None = None
@@ -44,6 +45,7 @@ class RoadRoute(NamedTuple):
     metres: float | None = None
     steps: list[dict[str, Any]] | None = None
     line: list[Point] | None = None
+    turns: list[dict[str, Any]] | None = None
 
     def __repr__(self) -> str:
         return f"<RoadRoute: {described(self)}, {len(self.line or ())} points>"
@@ -76,6 +78,11 @@ class Directions(NamedTuple):
     def steps(self) -> list[dict[str, Any]]:
         """The streets of all legs, with their metres and seconds."""
         return [step for leg in self.legs for step in leg.steps or ()]
+
+    @property
+    def turns(self) -> list[dict[str, Any]]:
+        """What to do along all legs in order, if that was asked for: see steps.instructions."""
+        return [turn for leg in self.legs for turn in leg.turns or ()]
 
     @property
     def line(self) -> list[Point]:
@@ -172,12 +179,13 @@ def match(router: Router, summer: Summer, roads: RoadIndex, trace: Trace, is_spl
 
 
 def directions(
-    router: Router, roads: RoadIndex, points: Sequence[SnappedPoint], stops: Sequence[int] | None = None, is_straight: bool = False
+    router: Router, roads: RoadIndex, points: Sequence[SnappedPoint], stops: Sequence[int] | None = None, is_straight: bool = False,
+    has_turns: bool = False
 ) -> Directions | None:
     """The route by some points in their order, None where a leg has no path; stops as RouteGeometry has them, and `is_straight` as
     `find_legs`. Raises NetworkError."""
     legs = find_legs(functools.partial(ask_router, router), roads, points, is_straight)
-    return None if isinstance(legs, int) else directions_along(roads, points, legs, stops)
+    return None if isinstance(legs, int) else directions_along(roads, points, legs, stops, has_turns)
 
 
 def alternatives(
@@ -204,11 +212,11 @@ def stops_of(waypoints: Sequence[int], count: int) -> list[int]:
 
 
 def directions_along(
-    roads: RoadIndex, points: Sequence[SnappedPoint], parts: Sequence[Leg], stops: Sequence[int] | None = None
+    roads: RoadIndex, points: Sequence[SnappedPoint], parts: Sequence[Leg], stops: Sequence[int] | None = None, has_turns: bool = False
 ) -> Directions:
     """The route along parts from each point to the next; stops as RouteGeometry has them."""
     ends = itertools.pairwise(range(len(points)) if stops is None else stops)
-    legs = [route_along(roads, points[first : last + 1], parts[first:last]) for first, last in ends]
+    legs = [route_along(roads, points[first : last + 1], parts[first:last], has_turns) for first, last in ends]
     weight, metres = sum(leg.weight or 0 for leg in legs), round(sum(leg.metres or 0.0 for leg in legs), 2)
     seconds = round(sum(leg.seconds or 0.0 for leg in legs), 3) if roads.has_seconds else None
     return Directions(weight, seconds, metres, legs, list(points), roads.texts[0])
@@ -236,7 +244,7 @@ def weights_and_millimetres(
     return found, sums
 
 
-def route_along(roads: RoadIndex, points: Sequence[SnappedPoint], legs: Sequence[Leg]) -> RoadRoute:
+def route_along(roads: RoadIndex, points: Sequence[SnappedPoint], legs: Sequence[Leg], has_turns: bool = False) -> RoadRoute:
     """The route along legs from each point to the next, as one."""
     geometry = RouteGeometry(roads, legs, points, [0, len(legs)])
     _, seconds, metres = leg_totals(roads, legs)
@@ -248,4 +256,5 @@ def route_along(roads: RoadIndex, points: Sequence[SnappedPoint], legs: Sequence
         for name, (_, part_seconds, part_metres) in zip(texts[begins].tolist(), parts)
     ]
     line = [(lon, lat) for lon, lat in (geometry.lines()[0] / MICRODEGREES).tolist()]
-    return RoadRoute(sum(leg.weight for leg in legs), len(geometry.arcs), seconds, metres, steps, line)
+    turns = instructions(geometry) if has_turns else None
+    return RoadRoute(sum(leg.weight for leg in legs), len(geometry.arcs), seconds, metres, steps, line, turns)
