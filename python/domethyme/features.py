@@ -36,7 +36,7 @@ class Features(dict[str, Any]):
 
 
 def route_feature(properties: dict[str, Any], line: Sequence[Point] | None) -> dict[str, Any]:
-    """The Feature of a route, with its line in parts where it crosses the 180th meridian; without a geometry where there is no line."""
+    """The Feature of a route: its line is in parts where it crosses the 180th meridian, and the geometry is None without one."""
     return {"type": "Feature", "properties": properties, "geometry": None if line is None else to_geojson_geometry(line)}
 
 

@@ -2,6 +2,8 @@
 import argparse
 import contextlib
 import csv
+import itertools
+import json
 import os
 import pathlib
 import signal
@@ -132,6 +134,20 @@ def file_at(path: str) -> os.stat_result | None:
     except (OSError, ValueError):
         return None
     return found if stat.S_ISREG(found.st_mode) else None
+
+
+def write_collection(file: IO[str], features: Iterable[str], members: Mapping[str, Any]) -> None:
+    """Writes a FeatureCollection with other members, and each text of a feature, or of several with commas between, on a new line."""
+    file.write('{"type":"FeatureCollection","features":[')
+    for before, feature in zip(itertools.chain(["\n"], itertools.repeat(",\n")), features):
+        file.write(before + feature)
+    others = (f",{to_json(name)}:{to_json(value)}" for name, value in members.items())
+    file.write(f"\n]{''.join(others)}}}\n")
+
+
+def to_json(value: Any) -> str:
+    """A value as JSON, on one line."""
+    return json.dumps(value, ensure_ascii=False, separators=(",", ":"))
 
 
 def write_rows(file: IO[str], rows: Iterable[Iterable[Any]]) -> None:

@@ -17,7 +17,6 @@ Exit status: 0; 1 for bad input or a failed write, with one line on standard err
 arguments that are refused.
 """
 import argparse
-import json
 
 from domethyme import Hierarchy
 from domethyme.atomic_files import atomic_write
@@ -25,8 +24,8 @@ from domethyme.csv_tables import need_columns, plain_float
 from domethyme.limits import DEFAULT_DEVIATION
 from domethyme.network.tables import paths_of
 
-from .cli import ToolError, add_compare_all, argument_parser, refuse_overwriting
-from .nearest import NO_PREFIXES, Trips, distance, read_trips
+from .cli import ToolError, add_compare_all, argument_parser, refuse_overwriting, to_json, write_collection
+from .places import Places, distance, read_table
 
 
 def parse_args() -> argparse.Namespace:
@@ -45,36 +44,35 @@ def parse_args() -> argparse.Namespace:
     return options
 
 
-def column(trips: Trips, name: str, missing: float | None) -> list[float] | None:
+def column(trace: Places, name: str, missing: float | None) -> list[float] | None:
     """The numbers of a column, None if there is none; an empty field is `missing`."""
-    if name not in trips.columns:
+    if name not in trace.columns:
         return None
-    need_columns(trips.path, trips.columns, [name])
+    need_columns(trace.path, trace.columns, [name])
     found = []
-    for row, fields in zip(trips.rows, trips.fields):
-        text = str(fields[trips.columns.index(name)]).strip()
+    for row, fields in zip(trace.rows, trace.fields):
+        text = fields[trace.columns.index(name)].strip()
         try:
             found.append(missing if missing is not None and not text else plain_float(text))
         except ValueError:
-            raise ToolError(f"{name} {text[:40]!r} is not a number", trips.path, row) from None
+            raise ToolError(f"{name} {text[:40]!r} is not a number", trace.path, row) from None
     return found
 
 
 def main() -> None:
     options = parse_args()
-    trips = read_trips(options.trace, NO_PREFIXES)
-    seconds, deviation = column(trips, "seconds", None), column(trips, "deviation", options.deviation)
+    trace = read_table(options.trace)
+    seconds, deviation = column(trace, "seconds", None), column(trace, "deviation", options.deviation)
     with Hierarchy(options.hierarchy, network=options.network, compare_all=options.compare_all) as hierarchy:
         try:
             found = hierarchy.match(
-                trips.ends[0], seconds, deviation=options.deviation if deviation is None else deviation,
+                trace.places[0], seconds, deviation=options.deviation if deviation is None else deviation,
                 gaps="ignore" if options.ignore_gaps else "split", tidy=options.tidy,
             )
         except ValueError as error:
             raise ToolError(str(error), options.trace) from error
         features = [matching.geojson() for matching in found.matchings]
     for feature in features:
-        feature["properties"]["rows"] = [trips.rows[point] for point in feature["properties"].pop("points")]
-    texts = [json.dumps(feature, separators=(",", ":"), ensure_ascii=False) for feature in features]
+        feature["properties"]["rows"] = [trace.rows[point] for point in feature["properties"].pop("points")]
     with atomic_write(options.output) as file:
-        file.write('{"type":"FeatureCollection","features":[\n' + ",\n".join(texts) + "\n]}\n")
+        write_collection(file, map(to_json, features), {})

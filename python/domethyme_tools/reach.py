@@ -19,15 +19,15 @@ Exit status: 0; 1 for bad input or a failed write, with one line on standard err
 arguments that are refused.
 """
 import argparse
-import json
 
-from domethyme import Hierarchy, NoSuchNode
+from domethyme import Hierarchy
 from domethyme.atomic_files import atomic_write
+from domethyme.errors import raised_as
 from domethyme.network.isochrones import COLOR, Shape
 from domethyme.network.tables import paths_of
 
-from .cli import ToolError, add_compare_all, argument_parser, refuse_overwriting
-from .nearest import NO_PREFIXES, add_radius, distance, read_trips
+from .cli import ToolError, add_compare_all, argument_parser, refuse_overwriting, to_json, write_collection
+from .places import add_radius, distance, read_table, rows_of_errors
 
 SHAPES: tuple[Shape, ...] = ("polygons", "lines", "roads")
 
@@ -51,7 +51,7 @@ def parse_args() -> argparse.Namespace:
     parser.add_argument("--denoise", metavar="SHARE", type=share, default=0.0,
                         help="drop parts smaller than this share, to 1, of the largest")
     parser.add_argument("--colors", metavar="LIST", type=colours, default=[], help="six hexadecimal digits for each number")
-    add_radius(parser, "road")
+    add_radius(parser, "refuse a place that is further from each road")
     add_compare_all(parser)
     options = parser.parse_args()
     if options.colors and len(options.colors) != len(options.minutes or options.metres or (5, 10, 15)):
@@ -81,23 +81,15 @@ def colours(text: str) -> list[str]:
 
 def main() -> None:
     options = parse_args()
-    trips = read_trips(options.places, NO_PREFIXES)
-    places = trips.ends[0]
-    if not places:
+    table = read_table(options.places)
+    if not table.rows:
         raise ToolError("has no place", options.places)
     with Hierarchy(options.hierarchy, network=options.network, compare_all=options.compare_all) as hierarchy:
-        try:
+        with raised_as(ToolError, options.network, ValueError), rows_of_errors(table):
             found = hierarchy.within(
-                places, options.minutes, metres=options.metres, shape=options.shape, generalize=options.generalize,
+                table.places[0], options.minutes, metres=options.metres, shape=options.shape, generalize=options.generalize,
                 denoise=options.denoise, colors=options.colors, towards=options.towards, radius=options.radius
             )
-        except NoSuchNode as error:
-            message, row = str(error).partition(" has ")[2], trips.rows[error.key] if isinstance(error.key, int) else None
-            raise ToolError(f"has {message}", options.places, row) from error
-        except ValueError as error:
-            raise ToolError(str(error), options.network) from error
-    features = [json.dumps(feature, separators=(",", ":"), ensure_ascii=False) for feature in found["features"]]
     others = {name: value for name, value in found.items() if name not in ("type", "features")}
-    members = "".join(f",{json.dumps(name)}:{json.dumps(value, ensure_ascii=False)}" for name, value in others.items())
     with atomic_write(options.output) as file:
-        file.write('{"type":"FeatureCollection","features":[\n' + ",\n".join(features) + f"\n]{members}}}\n")
+        write_collection(file, map(to_json, found["features"]), others)

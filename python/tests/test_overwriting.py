@@ -22,7 +22,7 @@ TRIPS = "from_lon,from_lat,to_lon,to_lat\n0,0,0.001,0\n"
 CALLS = [
     ("nearest net trips.csv --hierarchy net.rch -o out --snapped more", "out more"),
     ("to_geojson net answers --trips trips.csv --hierarchy net.rch -o out", "out"),
-    ("table net net.rch places.csv trips.csv -o out.npy --metres more.npy", "out.npy more.npy"),
+    ("routes net net.rch trips.csv -o out.geojson", "out.geojson"), ("table net net.rch places.csv trips.csv -o out.npy --metres more.npy", "out.npy more.npy"),
     ("reach net net.rch places.csv -o out", "out"), ("match net net.rch places.csv -o out", "out"),
     ("reweigh net places.csv out --unmatched more", "out.gr out.net more"), ("without net toll out", "out"),
     ("draw net answers out.svg", "out.svg"), ("page net net.rch out.html", "out.html"), ("nearest x.co trips.csv -o out", "out"),

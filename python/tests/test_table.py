@@ -108,7 +108,7 @@ def test_reach(town):
 
 def test_what_reach_refuses(write, town):
     for text, says in (("lon,lat\n9,47\n\n9.004,48\n", "bad, row 4: has no road within 1000 m"), ("lon,lat\n", "bad: has no place"),
-                       ("lon,lat\n9,x\n", "bad, row 2"), ("x,y\n9,47\n", "lon")):
+                       ("lon,lat\n9,x\n", "bad, row 2"), ("east,north\n9,47\n", "lon")):
         write("bad", text)
         assert_refused("reach", "town", "town.rch", "bad", says=says)
     prepared([(0, 0), (0.01, 0)], [Road(0, 1, 111_195, 111_195)], pathlib.Path("road").resolve()).close()

@@ -56,8 +56,8 @@ ARCS_AT_ONCE = 1 << 20
 NO_BLANKS = bytes.maketrans(b"\0\x1c\x1d\x1e\x1f", b"?????")
 
 
-def take_columns(table: Table, known: Mapping[str, tuple[str, ...]], needed: Iterable[str], say: Say) -> None:
-    """Gives the columns of a table the names by which they are known, in lower case, and says which aren't used.
+def known_columns(table: Table, known: Mapping[str, tuple[str, ...]], needed: Iterable[str], say: Say) -> dict[str, str]:
+    """The names by which columns of a table are known, in lower case, by the columns' own; `say` gets a line for each that is another word.
     Raises NetworkError for those that are missing, all in one, and for two columns of one meaning."""
     small_letters = [column.lower() for column in table.columns]
     found: dict[str, str] = {}
@@ -70,9 +70,15 @@ def take_columns(table: Table, known: Mapping[str, tuple[str, ...]], needed: Ite
             found[meant[0]] = name
             if meant[0].lower() != name:
                 say(f"{table.path}: column {meant[0]} is taken as {name}")
+    need_columns(table.path, [found.get(column, column) for column in table.columns], needed, table.form)
+    return found
+
+
+def take_columns(table: Table, known: Mapping[str, tuple[str, ...]], needed: Iterable[str], say: Say) -> None:
+    """Gives the columns of a table the names by which they are known (`known_columns`), and says which aren't used."""
+    found = known_columns(table, known, needed, say)
     unused = [column for column in table.columns if column not in found]
     table.columns = [found.get(column, column) for column in table.columns]
-    need_columns(table.path, table.columns, needed, table.form)
     if unused:
         free = [name for name in known if name not in found.values()]
         near = ((column, alike(column, free)) for column in unused)

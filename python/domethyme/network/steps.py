@@ -1,7 +1,7 @@
 """The steps of a route, and what to do at each. Needs numpy.
 
-A step begins where the name of the road changes, or a ferry, at a turn of more than 45 degrees at a junction, and at a roundabout, until
-after its exit. Types are depart, turn, new name, continue, roundabout and arrive.
+A step begins where the name of the road changes, or a ferry, at a turn of more than 45 degrees at a junction, and at a roundabout,
+until after its exit. Types are depart, turn, new name, continue, roundabout and arrive.
 """
 import functools
 import itertools
@@ -98,8 +98,8 @@ class RouteSteps:
 
 
 def instructions(geometry: RouteGeometry) -> list[dict[str, Any]]:
-    """What to do along the one leg of a route: for each step its type, modifier (None where it departs and arrives), name, metres and
-    seconds, None if the network has none, and the exit of a roundabout that it leaves."""
+    """What to do along the one leg of a route: for each step its type, modifier (None where it departs and arrives), name, metres
+    and seconds, None if the network has none, and the exit of a roundabout that it leaves."""
     steps, found = RouteSteps(geometry) if len(geometry.arcs) else None, list[dict[str, Any]]()
     if steps is not None:
         texts, totals = geometry.roads.texts, geometry.totals(steps.begins, steps.ends).rows
