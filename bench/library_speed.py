@@ -42,13 +42,13 @@ def made(folder: pathlib.Path, nodes: int) -> tuple[pathlib.Path, list[tuple[int
     return file, [(int(line[1]), int(line[2])) for line in lines]
 
 
-def processor(words: list[typing.Any], given: str = "") -> tuple[float, str]:
+def processor(words: list[typing.Any]) -> tuple[float, str]:
     """The processor seconds of a run, and what it prints."""
     def children() -> float:
         used = resource.getrusage(resource.RUSAGE_CHILDREN)
         return used.ru_utime + used.ru_stime
     before = children()
-    ran = subprocess.run(list(map(str, words)), input=given, check=True, stdout=subprocess.PIPE, text=True)
+    ran = subprocess.run(list(map(str, words)), check=True, stdout=subprocess.PIPE, text=True)
     return children() - before, ran.stdout
 
 

@@ -17,9 +17,8 @@ processors in parentheses, and greatest resident sizes. What a pair takes is wha
 --allocators   prepares each network once more with each of Debian's allocators that is here (libjemalloc2,
                libtcmalloc-minimal4, libmimalloc2.0), by LD_PRELOAD, and compares the answers' costs
 --lists        what the list of pairs takes: a million pairs and ten million that lead from a node to itself
---batches      100,000 pairs of the first network by one process, by route_many with parts of several sizes, by GNU parallel
-               (Debian's parallel) and by Dask (tools/packages.txt), at most two programs at a time; all answers have to be
-               the same bytes
+--batches      100,000 pairs of the first network by one process, and by GNU parallel (Debian's parallel) over parts of several
+               sizes, two programs at a time; all answers have to be the same bytes
 
 It needs g++ and the proved program, which is crates/routecli/out/routecli (README.md says how to build it) or the path in
 the environment variable ROUTECLI.
@@ -29,17 +28,15 @@ import contextlib
 import itertools
 import os
 import pathlib
-import signal
 import subprocess
 import sys
 import tempfile
-import time
 
 from kit import counted
 from kit.answers import costs_in
 from kit.hierarchy_file import links_in
 from kit.networks import arcs_in
-from kit.program import PROGRAM, ROOT, Runs, need_compiled, need_program
+from kit.program import PROGRAM, Runs, need_compiled, need_program
 
 NODES = [264_346, 1_000_000]
 USA = (23_947_347, 58_333_344)
@@ -52,10 +49,11 @@ ALLOCATORS = {
     "tcmalloc": "libtcmalloc_minimal.so.4",
     "mimalloc": "libmimalloc.so.2.0",
 }
-PARALLEL = """
-"$ROUTE_MANY" --program "$PROGRAM" --split-only "$HIERARCHY" "$PAIRS" "$OUT" >&2 &&
-parallel --will-cite -j 2 '"$PROGRAM" route "$HIERARCHY" {} >{.}.new && mv {.}.new {.}.answers' ::: "$OUT".parts/[0-9]*.pairs &&
-"$ROUTE_MANY" --program "$PROGRAM" --split-only "$HIERARCHY" "$PAIRS" "$OUT"
+# Cuts a query file into parts, and answers them by two programs at a time, as docs/PERFORMANCE.md does.
+PARALLEL = r"""
+awk -v size="$SIZE" '/^p/ { left = $5 } /^q/ { if (n % size == 0) { close(part); part = sprintf("%s/%06d", ENVIRON["PARTS"], n / size)
+    print "p aux sp p2p", (left < size ? left : size) > part } print > part; n++; left-- }' "$PAIRS" &&
+parallel --will-cite -j 2 -k "$PROGRAM" route "$HIERARCHY" {} ::: "$PARTS"/* > "$OUT"
 """
 
 
@@ -180,25 +178,6 @@ def lists(network, folder):
         row(f"{count:,}", times(taken_by), f"{taken_by.memory:,.0f} MB")
 
 
-@contextlib.contextmanager
-def beside(*commands):
-    """While the block runs, these programs do."""
-    children = [subprocess.Popen(command, stdout=subprocess.DEVNULL, stderr=subprocess.DEVNULL) for command in commands]
-    try:
-        yield
-    finally:
-        for child in reversed(children):
-            child.send_signal(signal.SIGINT)
-            child.wait()
-
-
-def cluster(folder):
-    """Dask's scheduler and two workers on the loopback, as a with-block."""
-    file = ["--scheduler-file", str(folder / "scheduler.json"), "--host", "127.0.0.1", "--no-dashboard"]
-    worker = ["--nthreads", "1", "--no-nanny", "--local-directory", str(folder / "workers")]
-    return beside(["/usr/bin/dask", "scheduler", "--port", "0", *file], *[["/usr/bin/dask", "worker", *worker, *file]] * 2)
-
-
 def batches(network, folder):
     """The table of how very many pairs are answered."""
     show([f"{BATCH:,} pairs of {network.nodes:,} nodes", "wall (processor)"])
@@ -206,24 +185,15 @@ def batches(network, folder):
         next(pairs)
         many = text_of(folder, "many.pairs", BATCH, itertools.cycle(pairs))
     wanted, out = folder / "wanted", folder / "out"
-    route_many = [ROOT / "tools/route_many", "--program", PROGRAM, network.file, many, out]
-
-    def answered(name, words, **more):
-        row(name, times(network.runs.taken(words, **more)))
-        if out.read_bytes() != wanted.read_bytes():
-            sys.exit(f"{name}: the answers differ")
-        out.unlink()
-
     row("one process", times(network.routed(wanted, many)))
-    for part in PARTS:
-        answered(f"`route_many --jobs 2 --pairs-per-part {part}`", [*route_many, "--jobs", 2, "--pairs-per-part", part])
-    places = {"ROUTE_MANY": ROOT / "tools/route_many", "PROGRAM": PROGRAM, "HIERARCHY": network.file, "PAIRS": many, "OUT": out}
-    places = {**os.environ, **{name: str(path) for name, path in places.items()}}
-    answered("`route_many --split-only`, GNU parallel `-j 2`", ["/bin/sh", "-c", PARALLEL], env=places)
-    with cluster(folder):
-        while not (folder / "scheduler.json").exists():
-            time.sleep(0.1)
-        answered("`route_many --dask`, two workers (theirs left out)", [*route_many, "--dask", folder / "scheduler.json"])
+    for size in PARTS:
+        with tempfile.TemporaryDirectory(dir=folder) as parts:
+            places = {"PROGRAM": PROGRAM, "HIERARCHY": network.file, "PAIRS": many, "OUT": out, "PARTS": parts, "SIZE": size}
+            environment = {**os.environ, **{name: str(value) for name, value in places.items()}}
+            row(f"GNU parallel `-j 2`, parts of {size:,}", times(network.runs.taken(["/bin/sh", "-c", PARALLEL], env=environment)))
+        if out.read_bytes() != wanted.read_bytes():
+            sys.exit(f"parts of {size}: the answers differ")
+        out.unlink()
 
 
 def main():

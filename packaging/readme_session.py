@@ -1,7 +1,7 @@
 """Runs what README.md, docs/START.md and docs/SERVICE.md show, with the packages of packaging/build-deb installed; packaging/check-deb calls it.
 
     readme_session.py session README    runs the commands behind `$`, each of which has to print what is shown below it
-    readme_session.py map START         runs the block of the map tools, with `tools/nearest` as domethyme-nearest
+    readme_session.py map START         runs the block of the map tools, with `tools/routes` as domethyme-routes
     readme_session.py service SERVICE   starts domethyme-serve by /etc/default/domethyme-serve, as its unit does, but at any
                                         port, runs the commands of docs/SERVICE.md, reloads it and ends it
 

@@ -12,8 +12,8 @@ if HERE not in sys.path:
 from domethyme_tools.cli import require_packages, run  # found by the path above
 
 COMMANDS = (
-    "build_converter", "draw", "fetch_extract", "match", "nearest", "osm_to_gr", "page", "reach", "reweigh", "route_many", "routes",
-    "serve", "table", "to_geojson", "to_network", "without",
+    "build_converter", "draw", "fetch_extract", "match", "osm_to_gr", "page", "reach", "reweigh", "routes", "serve", "table",
+    "to_network", "without",
 )
 
 

@@ -7,11 +7,9 @@ another vehicle, one weight that differs, and damage of a weight that no shortcu
 import hashlib
 import logging
 import os
-import re
-from typing import TYPE_CHECKING, NamedTuple
+from typing import TYPE_CHECKING
 
-from .errors import FileError, NetworkError, WrongHierarchy, raised_as
-from .hierarchy_file import open_hierarchy_file, read_header
+from .errors import FileError, WrongHierarchy, raised_as
 from .program import StrPath
 
 if TYPE_CHECKING:
@@ -19,47 +17,6 @@ if TYPE_CHECKING:
 
 # Links up to which all are compared; of more drawn ones, unless all are asked for.
 MAX_COMPARED = 10_000_000
-COMMENT = re.compile(r"c network (.+): ([0-9]{1,9}) nodes(?:, ([0-9]{1,9}) arcs(?:, checksum ([0-9a-f]{8}))?)?\s*")
-
-
-class Origin(NamedTuple):
-    """The network in which pairs of nodes were found: its name, nodes and arcs, and the checksum of these, None where it isn't known."""
-
-    name: str
-    nodes: int
-    arcs: int | None = None
-    checksum: str | None = None
-
-    @classmethod
-    def of(cls, line: bytes) -> "Origin | None":
-        """The one that a comment of a query file names; None for any other line."""
-        found = COMMENT.fullmatch(line.decode("utf-8", "replace"))
-        return None if found is None else cls(found[1], int(found[2]), None if found[3] is None else int(found[3]), found[4])
-
-    @property
-    def comment(self) -> str:
-        """The comment, without the `c`."""
-        name = " ".join(os.fsencode(self.name).decode("utf-8", "replace").split())
-        more = f", {self.arcs} arcs" if self.arcs is not None else "", f", checksum {self.checksum}" if self.checksum else ""
-        return f"network {name}: {self.nodes} nodes{''.join(more)}"
-
-    def need(self, hierarchy: str, nodes: int, pairs: StrPath, network: "MappedNetwork | None") -> None:
-        """Raises NetworkError where a hierarchy has another number of nodes, or its network, if that is known, other arcs."""
-        if nodes != self.nodes:
-            raise NetworkError(f"is of the network {self.name} with {self.nodes} nodes, and {hierarchy} has {nodes}", pairs)
-        if network is not None and self.checksum not in (None, network.checksum):
-            raise NetworkError(f"is of the network {self.name}, and {network.path} has other arcs: run `nearest` again", pairs)
-
-
-def compare_files(hierarchy: str, network: str, whole: bool = False) -> "MappedNetwork":
-    """The network that a tool's argument names. Raises WrongHierarchy where a file isn't that of it, and errors of both."""
-    from .network.from_tables import load_network_or_dimacs
-
-    with open_hierarchy_file(hierarchy) as file:
-        read_header(file.fileno(), hierarchy)
-        opened = load_network_or_dimacs(network)
-        compare(file.fileno(), hierarchy, opened, whole)
-    return opened
 
 
 def compare(file: int, name: str, network: "MappedNetwork", whole: bool = False) -> None:

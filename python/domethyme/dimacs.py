@@ -1,13 +1,12 @@
-"""Graphs, pairs and answers as texts, in the formats of docs/FORMATS.md, where nodes are numbered from 1, and from 0 in what is
-read and written here. The path `-` is standard input. What is wrong is a NetworkError with file and row. Needs nothing but Python's own library."""
-from collections.abc import Collection, Iterable, Iterator, Sequence
+"""Graphs as texts, in the format of docs/FORMATS.md, where nodes are numbered from 1, and from 0 in what is read and written here. The
+path `-` is standard input. What is wrong is a NetworkError with file and row. Needs nothing but Python's own library."""
+from collections.abc import Iterable, Iterator, Sequence
 from typing import IO, TYPE_CHECKING, Any, NamedTuple
 
 from .csv_tables import open_input, parse_int
 from .errors import NetworkError
 from .limits import MAX_LINES, MAX_NODES
 from .program import StrPath
-from .protocol import RouterResult, parse_reply
 
 if TYPE_CHECKING:
     from numpy.typing import NDArray
@@ -87,20 +86,3 @@ def lines_of(columns: "Sequence[Any]") -> bytes:
             is_text[:, place] = (rest > 0) | (place == last)
             text[:, place], rest = ord("0") + rest - 10 * tens, tens
     return text[is_text].tobytes()
-
-
-def write_pairs(file: IO[str], pairs: Collection[tuple[int, int]], comments: Iterable[str] = ()) -> None:
-    """Writes a query file of pairs of nodes, the comments first, a line each."""
-    file.writelines(f"c {comment}\n" for comment in comments)
-    file.write(f"p aux sp p2p {len(pairs)}\n")
-    file.writelines(f"q {source + 1} {target + 1}\n" for source, target in pairs)
-
-
-def read_answers(path: StrPath) -> Iterator[RouterResult]:
-    """The answers that `routecli route` prints, one after the other (`-` is standard input)."""
-    with open_input(path) as stream:
-        for row, line in enumerate(stream, 1):
-            try:
-                yield parse_reply(line)
-            except ValueError as error:
-                raise NetworkError(str(error), path, row) from error

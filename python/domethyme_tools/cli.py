@@ -9,15 +9,11 @@ import pathlib
 import signal
 import stat
 import sys
-from collections.abc import Callable, Iterable, Iterator
-from typing import IO, TYPE_CHECKING, Any, NoReturn
+from collections.abc import Callable, Iterable, Iterator, Mapping
+from typing import IO, Any, NoReturn
 
-from domethyme import belonging
 from domethyme.csv_tables import escape_formula
 from domethyme.errors import DomethymeError, FileError
-
-if TYPE_CHECKING:
-    from domethyme.network.net_file import MappedNetwork
 
 
 class ToolError(FileError):
@@ -85,22 +81,8 @@ def argument_parser(doc: str | None, *examples: str) -> argparse.ArgumentParser:
     return argparse.ArgumentParser(description=doc, epilog=epilog, formatter_class=argparse.RawDescriptionHelpFormatter)
 
 
-def add_hierarchy(parser: argparse.ArgumentParser, option: str = "--hierarchy", what: str = "its hierarchy") -> None:
-    """Adds the option by which a hierarchy and a network are compared."""
-    parser.add_argument(option, metavar=option[2:].upper(), help=f"{what}, which is compared: another one is refused")
-    add_compare_all(parser)
-
-
 def add_compare_all(parser: argparse.ArgumentParser) -> None:
     parser.add_argument("--compare-all", action="store_true", help="compare all links, also of more than ten million")
-
-
-def need_hierarchy(options: argparse.Namespace) -> "MappedNetwork | None":
-    """The network that was compared with that of --hierarchy, to be used in place of its files, which may have been replaced since;
-    None without that option. Raises WrongHierarchy where it names one of another network than NETWORK."""
-    if options.hierarchy is None:
-        return None
-    return belonging.compare_files(options.hierarchy, options.network, options.compare_all)
 
 
 def refuse_overwriting(

@@ -21,13 +21,13 @@ reported, with the least, the quartiles and the greatest of the metres and km/h 
 
 An empty field counts as missing. Column names are case-insensitive, and have common forms: id for node; lng,
 longitude or x for lon; latitude or y for lat; source and target, or from_id and to_id, for from and to. Columns that aren't used
-are named on standard error. The names of nodes come back in answers, as from_key and to_key; a column key has other ones for
+are named on standard error. The names of nodes are the keys of the package and the service; a column key has other ones for
 that. All files may be compressed by gzip. Or ARCS is a file X.gr of the DIMACS challenge: its arcs are straight.
 
 What is written, both or none:
 
   OUT.gr    the graph, for `routecli prepare`, a row of NODES for each node and a row of ARCS for each arc
-  OUT.net   the network, for nearest, to_geojson, draw and domethyme-serve
+  OUT.net   the network, for routes, table, draw and domethyme-serve
 
 A table that the tools didn't write is never overwritten.
 

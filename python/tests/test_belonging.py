@@ -1,5 +1,4 @@
-"""Tests that what doesn't belong together is refused: a hierarchy of another network, keys of another file, pairs of another
-network, by the package, the tools and the service."""
+"""Tests that what doesn't belong together is refused: a hierarchy of another network, keys of another file, by the package, the tools and the service."""
 import contextlib
 import functools
 import itertools
@@ -22,7 +21,6 @@ from domethyme import belonging, links
 from domethyme.network import net_file
 from domethyme_service.dataset import DatasetPaths, open_dataset
 from domethyme_service.errors import StartupError
-from domethyme_tools.cli import ToolError
 
 FOREIGN = "is the hierarchy of another network than"
 # Three nodes in a row, and a detour: 1 to 2 and 2 to 3 of 100, 1 to 3 of 500 or, in another network, of less.
@@ -194,43 +192,6 @@ def test_a_hierarchy_that_is_older(net):
     assert "older" not in run_tool(*again)[1]
 
 
-def test_pairs_name_their_network(net):
-    pairs, checksum = run_tool("nearest", "net", "trips.csv", "--hierarchy", "net.rch")[0], net_file.read("net.net").checksum
-    assert pairs == f"c network net: 3 nodes, 5 arcs, checksum {checksum}\np aux sp p2p 1\nq 1 3\n"
-    assert belonging.Origin.of(pairs.splitlines(True)[0].encode()) == ("net", 3, 5, checksum)
-    for origin in (("net", 3, 5, None), ("net", 3, None, None), ("a: 5 nodes, b", 0, 0, None), ("out/\xe9", 7, 9, "0" * 8)):
-        assert belonging.Origin.of(f"c {belonging.Origin(*origin).comment}\r\n".encode()) == origin
-    assert belonging.Origin("a\nb \udcff", 3).comment == "network a b \ufffd: 3 nodes"
-    for line in (b"c network", b"c network net: x nodes", b"c net: 3 nodes", b"q 1 2"):
-        assert belonging.Origin.of(line) is None
-
-
-def test_route_many_compares(net):
-    """The network that is named, and that of the pairs by the file that lies beside the hierarchy: of another vehicle too."""
-    made(net.parent, "slow", ARCS.replace("a,b,100", "a,b,101"), is_prepared=False)
-    made(net.parent, "more", nodes=NODES + "d,0.003,0\n", is_prepared=False)
-    for name in ("net", "slow", "more"):
-        run_tool("nearest", name, "trips.csv", "-o", f"{name}.pairs")
-    pathlib.Path("slow.pairs").write_text(pathlib.Path("slow.pairs").read_text() + "c another comment\n")
-    for name, comment in (("older", "slow: 3 nodes, 5 arcs"), ("few", "few: 2 nodes")):
-        pathlib.Path(f"{name}.pairs").write_text(f"c network {comment}\np aux sp p2p 1\nq 1 2\n")
-    for words in (["net.pairs", "--network", "net"], ["net.pairs"], ["older.pairs"]):  # (which doesn't say of which arcs it is)
-        run_tool("route_many", "net.rch", words[0], "out", *words[1:])
-    shutil.copy("net.rch", "alone.rch")
-    of_slow, named = "slow.pairs: is of the network slow, and net.net has other arcs: run `nearest` again", ["--network", "slow"]
-    of_arc = f"net.rch: {FOREIGN} slow.net: from node 1 to node 2 it has 100, where the least arc weighs 101"
-    for words, says in [
-        (["net.rch", "slow.pairs", "new"], of_slow), (["alone.rch", "slow.pairs", "new", "--network", "net"], of_slow),
-        *((["net.rch", "net.pairs", "new", *named, *more], of_arc) for more in ([], ["--compare-all"])),
-        *((["alone.rch", f"{name}.pairs", "new"], f"{name}.pairs: is of the network {name} with {count} nodes, and alone.rch has 3")
-          for name, count in (("more", 4), ("few", 2))),
-        (["net.rch", "net.pairs", "net.net", "--network", "net"], "OUT and net.net are one file"),
-    ]:
-        with pytest.raises((domethyme.WrongHierarchy, domethyme.NetworkError, ToolError), match=says):
-            run_tool("route_many", *words)
-    assert not os.path.exists("new")
-
-
 def test_keys_of_another_node(net):
     """A list of keys that has a key of the network's at another node."""
     with pytest.raises(ValueError, match="key 'b' names node 0 here, and node 1 in .*net.net"):
@@ -272,16 +233,14 @@ def test_what_the_service_opens(tmp_path, caplog):
 
 
 @pytest.mark.parametrize("words", [
-    "nearest net trips.csv --hierarchy net.rch", "nearest net trips.csv --hierarchy net.rch --on-roads",
-    "table net net.rch places.csv places.csv", "table net net.rch places.csv places.csv --on-roads",
-    "to_geojson net answers --hierarchy net.rch", "reach net net.rch places.csv --minutes 0.001", "match net net.rch places.csv",
+    "routes net net.rch trips.csv -o out.csv", "table net net.rch places.csv places.csv", "reach net net.rch places.csv --minutes 0.001",
+    "match net net.rch places.csv",
 ])
 def test_tools_use_what_they_have_compared(net, monkeypatch, caplog, words):
     """A network that takes the name of the one that was compared, a moment later, changes nothing, and is refused the next time.
     All links are compared if asked."""
     monkeypatch.setattr(belonging, "MAX_COMPARED", 0)
-    for name, text in (("places.csv", "name,lon,lat\nc,0.002,0\na,0,0\n"), ("answers", "r 3 1 4000 2 3 2 1\n")):
-        pathlib.Path(name).write_text(text)
+    pathlib.Path("places.csv").write_text("name,lon,lat\nc,0.002,0\na,0,0\n")
     arcs, compare, printed = ARCS.replace("weight", "seconds").replace("00", "").replace("c,b,1", "c,b,3"), belonging.compare, []
     made(net.parent, "net", arcs)
     made(net.parent, "new", arcs, "node,lon,lat\nc,0.002,0\nb,0.001,0\na,0,0\n", False)
@@ -293,7 +252,7 @@ def test_tools_use_what_they_have_compared(net, monkeypatch, caplog, words):
 
     monkeypatch.setattr(belonging, "compare", replacing)
     for more in (["--compare-all"], []):
-        printed.append(run_tool(*words.split(), *more)[0])
+        printed.append(run_tool(*words.split(), *more)[0] or pathlib.Path("out.csv").read_text())
         assert ("--compare-all" in caplog.text) == (more == [])
     assert printed[0] == printed[1] != "" and not os.path.exists("new.net")
     for more in ([], ["--compare-all"]):

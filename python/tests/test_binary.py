@@ -302,17 +302,6 @@ def test_files_are_closed_once_nobody_has_their_network(small):
     assert len(os.listdir("/proc/self/fd")) <= before
 
 
-def test_checksums(tmp_path):
-    """They change with the ends and with the weight of an arc."""
-    (tmp_path / "n.csv").write_text(NODES)
-    nodes, sums = from_tables.read_nodes(tmp_path / "n.csv"), set()
-    for row in ("2,3,9", "2,2,9", "3,3,9", "2,3,90"):
-        (tmp_path / "a.csv").write_text(ARCS.replace("2,3,9", row))
-        arrays = net_file.build_arrays(nodes.arrays, from_tables.read_arcs(tmp_path / "a.csv", nodes))
-        sums.add(net_file.map_tempfile(arrays, "net").checksum)
-    assert [*map(len, sums)] == [8] * 4
-
-
 def test_a_process_has_what_it_uses(tmp_path):
     """A network whose arrays have 25 MB: opening it and looking for places takes a few."""
     subprocess.run([ROOT / "bench/make_roads.py", "100000", "1", tmp_path / "large"], check=True, capture_output=True)

@@ -1,7 +1,5 @@
 """Tests of the columns of a user's own tables: names, what is refused, keys, units, and gzip."""
-import csv
 import gzip
-import io
 import json
 import tracemalloc
 
@@ -25,32 +23,20 @@ ARCS = "from,to,kmh\ndepot,shop,50\nshop,depot,50\nshop,farm,30\n"
 
 @pytest.fixture
 def folder(tmp_path, monkeypatch):
-    """The folder in which the test runs, with a network, its tables, trips and what routecli answers."""
+    """The folder in which the test runs, with a network and its tables."""
     monkeypatch.chdir(tmp_path)
     (tmp_path / "nodes.csv").write_text(NODES)
     (tmp_path / "arcs.csv").write_text(ARCS)
-    (tmp_path / "trips.csv").write_text('"=1+label",from_lon,from_lat,to_lon,to_lat\n"=cmd|x",-0.0001,0,0.001,0.002\n')
-    (tmp_path / "answers").write_text("r 1 3 34693 2 1 2 3\n")
     run_tool("to_network", "nodes.csv", "arcs.csv", "net", "--tables")
     return tmp_path
 
 
 def test_keys_come_back(folder):
-    """In the package, in tables and answers; as do texts of a user's own columns that begin as formulas, quoted in tables."""
+    """In the package, and in tables."""
     domethyme.prepare("net.gr", "net.rch", workers=1).close()
     network = domethyme.Network("net")
     with domethyme.Hierarchy("net.rch", keys=network.keys(), network=network) as hierarchy:
         assert hierarchy.nearest(0.001, 0.0019)[0] == "farm"
-    run_tool("nearest", "net", "trips.csv", "--snapped", "snapped.csv", "-o", "pairs")
-    assert (folder / "snapped.csv").read_text().splitlines()[1].startswith("'=cmd|x,-0.0001,0,0.001,0.002,1,")
-    for words in ((), ("--trips", "snapped.csv")):
-        lines, table = (run_tool("to_geojson", "net", "answers", *words, "--format", form)[0] for form in ("lines", "csv"))
-        for found, mark in ((json.loads(lines)["properties"], ""), (next(csv.DictReader(io.StringIO(table))), "'")):
-            assert (str(found["from_node"]), found["from_key"], found["to_key"]) == ("1", "depot", "farm")
-            assert found.get(f"{mark}=1+label") == (f"{mark}=cmd|x" if words else None)
-    (folder / "wrong.csv").write_text((folder / "snapped.csv").read_text().replace("depot", "shop"))
-    with pytest.raises(domethyme.DomethymeError, match="has from_key 'shop' where the answer has depot"):
-        run_tool("to_geojson", "net", "answers", "--trips", "wrong.csv", "-o", "out")
     assert (folder / "net.nodes.csv").read_text().startswith("node,osm,lon,lat,ends,key\n1,,0.0000000,0.0000000,,depot\n")
     assert (folder / "net.nodes.csvt").read_text() == '"Integer","Integer64","CoordX","CoordY","String","String"\n'
     run_tool("to_network", "net.nodes.csv", "net.arcs.csv", "again")
@@ -58,19 +44,20 @@ def test_keys_come_back(folder):
     assert [domethyme.Network(name).keys().node("farm") for name in ("net", "again")] == [2, 2]
 
 
-def test_tables_dimacs_files_and_answers_of_gzip(folder):
+def test_tables_and_dimacs_files_of_gzip(folder):
     (folder / "x.co").write_text("p aux sp co 3\nv 1 0 0\nv 2 1000 0\nv 3 1000 2000\n")
     graph = (folder / "net.gr").rename("x.gr").read_bytes()
-    for name in ("nodes.csv", "arcs.csv", "x.co", "x.gr", "answers"):
+    for name in ("nodes.csv", "arcs.csv", "x.co", "x.gr"):
         (folder / f"{name}.gz").write_bytes(gzip.compress((folder / name).read_bytes()))
         (folder / name).unlink()
     for out, tables in (("packed", ("nodes.csv.gz", "arcs.csv.gz")), ("dimacs", ("x.co.gz", "x.gr.gz"))):
         run_tool("to_network", *tables, out)
         assert (folder / f"{out}.gr").read_bytes() == graph
     assert read_graph("x.gr.gz") == read_graph("packed.gr")
-    assert "q 1 3\n" in run_tool("nearest", "x.co.gz", "trips.csv")[0]
+    assert domethyme.Network("x.co.gz").nearest(0.001, 0.002)[0] == 2
+    route = domethyme.Route(0, 2, 34693, [0, 1, 2], [0, 1, 2])
     for network in ("x.co.gz", "packed", "x.co.gz"):
-        assert '"length":34693' in run_tool("to_geojson", network, "answers.gz")[0]
+        assert domethyme.Network(network).geojson(route)["features"][0]["properties"]["arcs"] == 2
         (folder / "x.gr").write_bytes(graph)  # (which is read in place of the other one)
         (folder / "x.gr.gz").write_text("p sp 1 0\n")
 

@@ -13,6 +13,7 @@ from browser import Browser
 from draws import run_tool
 from tool_case import VILLAGE, ToolCase, contrast
 
+import domethyme
 from domethyme import DomethymeError
 from domethyme.drawing import geometry, picture, roads, routes
 from domethyme.network import net_file
@@ -258,8 +259,8 @@ class Draw(ToolCase):
         """Which has small roads alone, and more than there is room for."""
         self.write("d.co", "p aux sp co 3\nv 1 0 0\nv 2 1000 0\nv 3 2000 1000\n")
         self.write("d.gr", "p sp 3 3\na 1 2 7\na 2 3 9\na 2 3 8\n")
-        text = run_tool("to_geojson", self.folder / "d.co", self.write("answers", "r 1 3 15 2 1 2 3\n"))[0]
-        feature = json.loads(text)["features"][0]
+        found = domethyme.Network(self.folder / "d.co").geojson(domethyme.Route(0, 2, 15, [0, 1, 2], [0, 1, 2]))
+        text, feature = json.dumps(found), found["features"][0]
         assert feature["geometry"]["coordinates"] == [[0, 0], [0.001, 0], [0.002, 0.001]]
         assert (feature["properties"]["metres"], feature["properties"]["seconds"]) == (268.45, None)
         with mock.patch.object(roads, "MAX_POINTS", 1):
@@ -471,7 +472,6 @@ GEOMETRY = [
     *((geometry.to_mercator, ([place],), [pytest.approx(point, abs=1e-4)]) for place, point in (
         ((-180, 0), (0, 0.5)), ((0, 45), (0.5, 0.359725)), ((180, -90), (1, 1)), ((0, 90), (0.5, 0)))),
     *((geometry.from_mercator, geometry.to_mercator([place]), pytest.approx(place)) for place in ((-180, 0), (20, 45), (179, -60))),
-    (geometry.join_lines, ([["a", "b"], ["b", "b", "c"], ["c", "a"]],), ["a", "b", "c", "a"]),
     (geometry.path_of, ([(0, 0), (0.04, 0), (0.08, 0), (0.12, -0.04)],), "M0 0l0.1 0"),
     (geometry.path_of, ([(-123_456.7, 0), (1_234_567.8, 0)],), "M-123456.7 0l1358024.5 0"),
     (geometry.delta_encode, ([(0, 1), (4e-7, 1), (8e-7, 1 + 4e-7)],), [0, 1_000_000, 0, 0, 1, 0]),

@@ -1,4 +1,4 @@
-"""The tools on drawn networks: nodes and roads near places, tables, routes as GeoJSON, and networks of a user's own tables."""
+"""The tools on drawn networks: routes and tables between places, and networks of a user's own tables."""
 import contextlib
 import csv
 import itertools
@@ -7,12 +7,12 @@ import os
 import pathlib
 import subprocess
 import tempfile
-from collections.abc import Collection, Mapping
+from collections.abc import Mapping
 from typing import Any, NamedTuple
 
 import numpy as np
 import pytest
-from draws import ORIGINS, Drawn, drawn, networks, places, points_near, run_tool, write_network
+from draws import ORIGINS, drawn, networks, places, points_near, run_tool, write_network
 from hypothesis import assume, given
 from hypothesis import strategies as st
 from model import matching
@@ -87,129 +87,60 @@ def test_trips_and_tables(data: Any) -> None:
         write_rows("trips.csv", ["label", *SOURCES], ([label, *a, *b] for label, (a, b) in zip(labels, trips)))
         for name, end in (("sources", 0), ("targets", 1)):
             write_rows(f"{name}.csv", ["lon", "lat"], (trip[end] for trip in trips))
-        check_between_nodes(made, trips, labels, radius)
         with contextlib.suppress(Ambiguous):
-            check_on_roads(made.roads, trips, radius)
+            check_on_roads(made.roads, trips, labels, radius)
 
 
-def one_junction(network: Network, one: int, other: int) -> bool:
-    first, last = network.nodes[one], network.nodes[other]
-    return one == other or bool(first.ends and last.ends) and (first.place, first.osm) == (last.place, last.osm)
-
-
-def read_pairs(path: str) -> list[tuple[int, int]]:
-    lines = [line.split() for line in pathlib.Path(path).read_text().splitlines() if line[0] == "q"]
-    return [(int(line[1]) - 1, int(line[2]) - 1) for line in lines]
-
-
-def is_pair(network: Network, start: int, end: int, starts: Collection[int], ends: Collection[int]) -> bool:
-    """Whether a pair leads from the nearest node, one of `starts`, to one of `ends`; or stays at the junction where it begins."""
-    stays = {one_junction(network, start, each) for each in ends}
-    return start in starts and (end == start if stays == {True} else end in ends or True in stays and end == start)
-
-
-def check_between_nodes(made: Drawn, trips: Trips, labels: list[str], radius: float) -> None:
-    """`nearest` and its `--snapped` and `--matrix`, `table`, and `to_geojson` of what routecli answers."""
-    network, has_keys = made.tables, made.has_keys
-    near = [[network.nearest(place, side) for place, side in zip(trip, ("from", "to"))] for trip in trips]
-    skipped = {row for row, ends in enumerate(near) for _, metres in ends if metres > radius}
-    trip_words = "net", "trips.csv", "-o", "pairs", "--radius", radius
-    table_words = "net", "net.rch", "sources.csv", "targets.csv", "-o", "t.npy", "--radius", radius
-    if skipped:
-        for tool, words in (("nearest", trip_words), ("table", table_words)):
-            with pytest.raises(ToolError, match="nearest node"):
-                run_tool(tool, *words)
-        near, labels = ([each for row, each in enumerate(some) if row not in skipped] for some in (near, labels))
-    run_tool("nearest", *trip_words, "--snapped", "snapped.csv", *["--skip-far"] * bool(skipped))
-    pairs = read_pairs("pairs")
-    columns, *rows = csv.reader(pathlib.Path("snapped.csv").read_text().splitlines())
-    for (start, end), ((starts, away), (ends, end_away)), row, label in zip(pairs, near, rows, labels, strict=True):
-        assert is_pair(network, start, end, starts, ends)
-        found = dict(zip(columns, row))
-        assert found["label"].lstrip("'") == label.lstrip("'") and (found["label"][:1] not in "=+-@" or label in NUMBERS)
-        assert (found["from_node"], found["to_node"]) == (str(start + 1), str(end + 1))
-        keys = [network.nodes[node].key if has_keys else None for node in (start, end)]
-        assert [found.get("from_key"), found.get("to_key")] == keys
-        assert abs(float(found["from_metres"]) - away) < 0.051 and abs(float(found["to_metres"]) - end_away) < 0.051
-    if not pairs:
-        return
-    pathlib.Path("answers").write_text(routecli("route", "net.rch", "pairs"))
-    run_tool("to_geojson", "net", "answers", "--trips", "snapped.csv", "-o", "routes")
-    routes = json.loads(pathlib.Path("routes").read_text())
-    assert routes["attribution"] == "© the town"
-    run_tool("to_geojson", "net", "answers", "--trips", "snapped.csv", "--format", "csv", "-o", "routes.csv")
-    columns, *rows = csv.reader(pathlib.Path("routes.csv").read_text().splitlines())
-    for pair, feature, row in zip(pairs, routes["features"], rows, strict=True):
-        found, shown = dict(zip(columns, row, strict=True)), {**feature["properties"], "label": None, "steps": None}
-        assert all(found[name] == str(value) for name, value in shown.items() if value is not None)
-        length = network.lengths({pair[0]: 0}).get(pair[1])
-        keys = [network.nodes[node].key if has_keys else None for node in pair]
-        assert [feature["properties"].get(name) for name in ("from_key", "to_key")] == keys
-        assert feature["properties"]["length"] == length and (feature["geometry"] is None) == (length is None)
-        assert (feature["properties"]["seconds"] is None) == (length is None or not network.has_seconds)
-        assert length is None or feature["properties"]["arcs"] == network.fewest_arcs(*pair)
-        if length is not None:  # (an answer that there is no path is refused)
-            for name in ("seconds", "metres"):
-                steps, whole = [step[name] for step in feature["properties"]["steps"]], feature["properties"][name]
-                assert steps == [None] * len(steps) if whole is None else abs(sum(steps) - whole) < 0.006 * (1 + len(steps))
-            pathlib.Path("no_path").write_text(f"n {pair[0] + 1} {pair[1] + 1}\n")
-            with pytest.raises(ToolError, match="says that no path leads from"):
-                run_tool("to_geojson", "net", "no_path", "-o", "routes")
-    if skipped:
-        return
-    run_tool("nearest", "net", "sources.csv", "--matrix", "-o", "matrix", "--radius", 1e9)
-    there = [network.nearest(place, "to")[0] for place, _ in trips]
-    for pair, (((starts, _), _), ends) in zip(read_pairs("matrix"), itertools.product(near, there), strict=True):
-        assert is_pair(network, *pair, starts, ends)
-    run_tool("table", *table_words, "--metres", "m.npy")
-    table, metres = np.load("t.npy"), np.load("m.npy")
-    with domethyme.Hierarchy("net.rch", network="net") as hierarchy:
-        ends = (hierarchy.nearest(*np.array(some).T, side, radius=radius)[0] for side, some in zip(("from", "to"), zip(*trips)))
-        sums = hierarchy.matrix(*ends, sums=["metres"])["metres"]
-    np.testing.assert_array_equal(metres, np.where(metres == 0, 0, sums))
-    assert (np.isnan(metres) == (table < 0)).all()
-    for (row, ((starts, _), _)), (column, (_, (ends, _))) in itertools.product(enumerate(near), enumerate(near)):
-        stays = {(start, end): one_junction(network, start, end) for start in starts for end in ends}
-        assert table[row, column] in {0 if stays[pair] else network.lengths({pair[0]: 0}).get(pair[1], -1) for pair in stays}
-        assert metres[row, column] == 0 or not all(stays.values())
-
-
-def check_on_roads(roads: Network, trips: Trips, radius: float) -> None:
-    """`nearest --on-roads`, `to_geojson --on-roads` of what routecli replies, and `table --on-roads`."""
+def check_on_roads(roads: Network, trips: Trips, labels: list[str], radius: float) -> None:
+    """`routes` as GeoJSON and as CSV, and `table`."""
     points = [[roads.snap(place, radius) for place in trip] for trip in trips]
-    words = "net", "trips.csv", "--on-roads", "-o", "lines", "--radius", radius
-    if None in itertools.chain(*points):
-        with pytest.raises(ToolError, match="nearest road"):
-            run_tool("nearest", *words)
-        return
-    run_tool("nearest", *words)
-    pathlib.Path("replies").write_text(routecli("serve", "net.rch", given=pathlib.Path("lines").read_text()))
-    run_tool("to_geojson", "net", "replies", "--trips", "trips.csv", "--on-roads", "-o", "on_roads")
-    routes = json.loads(pathlib.Path("on_roads").read_text())
+    problems = sum(None in pair for pair in points)
+    for words in (["-o", "routes.geojson", "--steps"], ["-o", "routes.csv"]):
+        says = pytest.raises(ToolError, match=f"{words[1]}: {problems} of {len(trips)} trips") if problems else contextlib.nullcontext()
+        with says:
+            run_tool("routes", "net", "net.rch", "trips.csv", "--radius", radius, *words)
+    routes = json.loads(pathlib.Path("routes.geojson").read_text())
     assert routes["attribution"] == "© the town"
-    for (start, end), feature in zip(points, routes["features"], strict=True):
-        assert any(is_leg(roads, feature, start, leg, end) for leg in roads.legs(start, end) or [None]), (feature, start, end)
-    words = "net", "net.rch", "sources.csv", "targets.csv", "--on-roads", "--radius", radius
-    run_tool("table", *words, "-o", "on.csv", "--metres", "m.npy")
+    columns, *rows = csv.reader(pathlib.Path("routes.csv").read_text().splitlines())
+    for (start, end), feature, row, label in zip(points, routes["features"], rows, labels, strict=True):
+        found, shown = dict(zip(columns, row, strict=True)), {**feature["properties"], "label": None, "steps": None}
+        assert all(found[name] == str("" if value is None else value) for name, value in shown.items() if name in columns[1:])
+        assert found["label"].lstrip("'") == label.lstrip("'") and (found["label"][:1] not in "=+-@" or label in NUMBERS)
+        assert feature["properties"]["label"] == label.removeprefix("'")  # (which is there for a program for sheets)
+        if start is None or end is None:
+            side = "from" if start is None else "to"
+            assert is_leg(roads, feature, None, None, None) and found["problem"].startswith(f"{side} has no road within {radius} m")
+        else:
+            assert any(is_leg(roads, feature, start, leg, end) for leg in roads.legs(start, end) or [None]), (feature, start, end)
+    words = "net", "net.rch", "sources.csv", "targets.csv", "--radius", radius, "-o", "on.csv", "--metres", "m.npy"
+    if problems:
+        with pytest.raises(ToolError, match=r"(sources|targets).csv, row \d+: has no road within"):
+            run_tool("table", *words)
+        return
+    run_tool("table", *words)
     with domethyme.Hierarchy("net.rch", network="net") as hierarchy:
         sums = hierarchy.table(*zip(*trips), radius=radius, sums=["metres"])
     np.testing.assert_array_equal(np.load("m.npy"), sums["metres"])
     cells = [line.split(",")[1:] for line in pathlib.Path("on.csv").read_text().splitlines()[1:]]
     for (row, (start, _)), (column, (_, end)) in itertools.product(enumerate(points), enumerate(points)):
+        assert start is not None and end is not None
         legs = roads.legs(start, end)
         assert cells[row][column] == (str(sum(part[3] for part in legs[0])) if legs else ""), cells
 
 
-def is_leg(roads: Network, feature: Any, start: SnappedPoint, leg: list[Part] | None, end: SnappedPoint) -> bool:
+def is_leg(roads: Network, feature: Any, start: SnappedPoint | None, leg: list[Part] | None, end: SnappedPoint | None) -> bool:
     """Whether a route between places on roads is this leg, or there is none."""
     found, geometry = feature["properties"], feature["geometry"]
-    if leg is None:
-        return geometry is None and found["length"] is None
+    if leg is None or start is None or end is None:
+        return geometry is None and [found[name] for name in ("weight", "metres", "seconds", "streets", "steps")] == [None] * 5
     total = figures(roads, leg)
-    names = [name for name, _ in itertools.groupby(roads.arcs[arc].name for arc, *_ in leg)]
-    expected = {"length": sum(part[3] for part in leg), "arcs": len(leg), "seconds": total["duration"], "metres": total["distance"]}
-    if difference({name: found[name] for name in expected}, expected) or [step["name"] for step in found["steps"]] != names:
+    names = [name for name, _ in itertools.groupby(roads.arcs[arc].name for arc, *_ in leg if roads.arcs[arc].name)]
+    expected = {"weight": sum(part[3] for part in leg), "seconds": total["duration"], "metres": total["distance"]}
+    if difference({name: found[name] for name in expected}, expected) or found["streets"] != "; ".join(names):
         return False
+    for name in ("seconds", "metres"):
+        steps, whole = [step[name] for step in found["steps"]], found[name]
+        assert steps == [None] * len(steps) if whole is None else abs(sum(steps) - whole) < 0.006 * (1 + len(steps))
     return geometry is not None and has_line(geometry, leg_line(roads, start, leg, end))
 
 

@@ -229,16 +229,15 @@ def test_cells_hold_their_places():
     assert min(snapping.EDGE_BITS, junctions.ROAD_BITS - 1) >= 29
 
 
-def test_from_answers_to_a_picture(tmp_path):
-    """A road over the 180th meridian, from 179.998 to -179.998, is 444.78 m, and in parts as GeoJSON and WKT."""
-    net, answers, routes = tmp_path / "net", tmp_path / "answers", tmp_path / "routes"
-    prepared([(179.998, 0), (-179.998, 0), (-179.9, 0)], [Road(0, 1, 32_024, 32_024), Road(1, 2, 784_590, None)], net).close()
-    answers.write_text("r 1 2 32024 1 1 2\nr 2 1 32024 1 2 1\n")
-    routes.write_text(run_tool("to_geojson", net, answers)[0])
-    parts = '"type":"MultiLineString","coordinates":[[[179.998,0.0],[180.0,0.0]],[[-180.0,0.0],[-179.998,0.0]]]'
-    assert parts in routes.read_text() and '"metres":444.78' in routes.read_text()
-    table, _ = run_tool("to_geojson", net, answers, "--format", "csv")
-    assert "MULTILINESTRING ((179.9980000 0.0000000, 180.0000000 0.0000000), (-180.0000000 0.0000000, -179.99" in table
+def test_from_routes_to_a_picture(tmp_path):
+    """A road over the 180th meridian, from 179.998 to -179.998, is 444.78 m, and in parts as GeoJSON."""
+    net, routes = tmp_path / "net", tmp_path / "routes"
+    with prepared([(179.998, 0), (-179.998, 0), (-179.9, 0)], [Road(0, 1, 32_024, 32_024), Road(1, 2, 784_590, None)], net) as hierarchy:
+        found = hierarchy.routes([[0, 1], [1, 0]]).geojson()
+    routes.write_text(json.dumps(found))
+    first = found["features"][0]
+    assert first["geometry"] == {"type": "MultiLineString", "coordinates": [[[179.998, 0], [180, 0]], [[-180, 0], [-179.998, 0]]]}
+    assert first["properties"]["metres"] == 444.78
     run_tool("draw", net, routes, tmp_path / "out.svg")
     picture = (tmp_path / "out.svg").read_text()
     # the scale's bar is of 50 or 100 metres: the picture has the road, and not the world

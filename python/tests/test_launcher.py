@@ -18,10 +18,10 @@ class LauncherTests(ToolCase):
         self.assertEqual(sorted(name.removeprefix("domethyme-") for name in files), sorted(COMMANDS))
 
     def test_tools_by_their_names(self):
-        for name in ("domethyme-to-geojson", "to_geojson"):
+        for name in ("domethyme-to-network", "to_network"):
             (self.folder / name).symlink_to(LAUNCHER)
             said = self.run_program([self.folder / name, "--help"]).stdout
-            self.assertRegex(said, rf"(?s)^usage: {name} .*\nExit status: .*\n\nexamples:\n  routecli .* \| {name} out/li - ")
+            self.assertRegex(said, rf"(?s)^usage: {name} .*\nExit status: .*\n\nexamples:\n  {name} ")
         self.assertIn("usage: draw ", self.run_program([LAUNCHER, "draw", "--help"]).stdout)
         for words in ([LAUNCHER], [LAUNCHER, "drew"]):
             ended = self.run_program(words, status=2)
@@ -40,6 +40,6 @@ class FolderTests(ServiceCase):
             self.write(f"{name}.py", TAKEN)
         self.addCleanup(os.chdir, os.getcwd())
         os.chdir(self.folder)
-        self.assertEqual(subprocess.run([TOOLS / "nearest", "--help"], stdout=subprocess.DEVNULL).returncode, 0)
+        self.assertEqual(subprocess.run([TOOLS / "routes", "--help"], stdout=subprocess.DEVNULL).returncode, 0)
         self.serve("--workers", "4", "--network", self.folder / "v")
         self.assertEqual(self.ask("/health")[0], 200)

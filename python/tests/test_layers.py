@@ -12,10 +12,9 @@ import pytest
 from domethyme.extras import EXTRAS
 
 PYTHON = pathlib.Path(__file__).resolve().parents[1]
-# What each package may import; domethyme_part is the one file that Dask is sent, and domethyme_launcher is above all.
+# What each package may import; domethyme_launcher is above all.
 BELOW = {
-    "domethyme": set(), "domethyme_service": {"domethyme"}, "domethyme_part": set(),
-    "domethyme_tools": {"domethyme", "domethyme_part"},
+    "domethyme": set(), "domethyme_service": {"domethyme"}, "domethyme_tools": {"domethyme"},
     "domethyme_launcher": {"domethyme", "domethyme_service", "domethyme_tools"}
 }
 # Imports every module of a package, and prints what was imported of the others.

@@ -20,12 +20,11 @@ TRIPS = "from_lon,from_lat,to_lon,to_lat\n0,0,0.001,0\n"
 
 # A call of each tool, and the files that it writes.
 CALLS = [
-    ("nearest net trips.csv --hierarchy net.rch -o out --snapped more", "out more"),
-    ("to_geojson net answers --trips trips.csv --hierarchy net.rch -o out", "out"),
-    ("routes net net.rch trips.csv -o out.geojson", "out.geojson"), ("table net net.rch places.csv trips.csv -o out.npy --metres more.npy", "out.npy more.npy"),
+    ("routes net net.rch trips.csv -o out.geojson", "out.geojson"),
+    ("table net net.rch places.csv trips.csv -o out.npy --metres more.npy", "out.npy more.npy"),
     ("reach net net.rch places.csv -o out", "out"), ("match net net.rch places.csv -o out", "out"),
     ("reweigh net places.csv out --unmatched more", "out.gr out.net more"), ("without net toll out", "out"),
-    ("draw net answers out.svg", "out.svg"), ("page net net.rch out.html", "out.html"), ("nearest x.co trips.csv -o out", "out"),
+    ("draw net answers out.svg", "out.svg"), ("page net net.rch out.html", "out.html"), ("draw x.co answers out.svg", "out.svg"),
     ("to_network places.csv trips.csv out --tables", "out.gr out.net out.nodes.csv out.arcs.csv out.arcs.prj"),
     ("osm_to_gr answers out --profile own.json --tables", "out.gr out.net out.nodes.csv out.arcs.csv out.nodes.csvt"),
 ]
@@ -53,8 +52,8 @@ def test_no_output_is_an_input(tmp_path, monkeypatch, call, outputs):
 
 # Calls whose outputs are one file, or standard output.
 TWICE = [
-    "nearest net trips.csv -o out --snapped ./out", "nearest net trips.csv --snapped -", "reweigh net places.csv out --unmatched out.gr",
-    "reweigh net places.csv out --unmatched ./out.net", "table net net.rch places.csv trips.csv -o out --metres out",
+    "reweigh net places.csv out --unmatched out.gr", "reweigh net places.csv out --unmatched ./out.net",
+    "table net net.rch places.csv trips.csv -o out --metres ./out", "table net net.rch places.csv trips.csv -o out --metres out",
     "table net net.rch places.csv trips.csv --metres -", "table net net.rch places.csv trips.csv -o /dev/stdout --metres -",
     "table net net.rch a.csv b.csv -o - --metres /dev/fd/1", "table net net.rch a.csv b.csv -o /dev/fd/1 --metres /dev/stdout"
 ]
@@ -90,19 +89,22 @@ def contents():
 def test_standard_input_and_output(folder):
     """What is written to a file is behind what it has already; a full disk is named."""
     run_tool("to_network", "firm.nodes.csv", "firm.arcs.csv", "net")
-    before, nearest = contents(), [TOOLS / "nearest", "net"]
+    domethyme.prepare("net.gr", "net.rch", workers=1).close()
+    (folder / "places.csv").write_text("lon,lat\n0,0\n0.001,0\n")
+    before, table = contents(), [TOOLS / "table", "net", "net.rch", "places.csv"]
     with open("trips.csv", encoding="utf-8") as trips:
-        ended = subprocess.run([*nearest, "-", "-o", "trips.csv"], stdin=trips, capture_output=True, text=True)
+        ended = subprocess.run([*table, "-", "-o", "trips.csv"], stdin=trips, capture_output=True, text=True)
     assert (ended.returncode, contents()) == (2, before)
     assert "trips.csv and standard input are one file: it would be overwritten" in ended.stderr
+    table.append("places.csv")
     for output in (subprocess.PIPE, subprocess.DEVNULL):
-        subprocess.run([*nearest, "trips.csv", "-o", "/dev/null", "--snapped", "/dev/null"], stdout=output, check=True)
+        subprocess.run([*table, "-o", "/dev/null", "--metres", "/dev/null"], stdout=output, check=True)
     with open("told", "w") as file:
         for output in ("-", "/dev/stdout", "/dev/fd/1", "/proc/self/fd/1", "/dev/stderr", "/dev/fd/2"):
-            subprocess.run([*nearest, "trips.csv", "-o", output], stdout=file, stderr=file, check=True)
-    assert pathlib.Path("told").read_text().count("q 1 2") == 6
-    ended = subprocess.run([*nearest, "trips.csv", "-o", "/dev/full"], capture_output=True, text=True)
-    assert (ended.returncode, ended.stderr) == (1, "nearest: /dev/full: No space left on device\n")
+            subprocess.run([*table, "-o", output], stdout=file, stderr=file, check=True)
+    assert pathlib.Path("told").read_text() == 6 * "from,1,2\n1,0,8006\n2,8006,0\n"
+    ended = subprocess.run([*table, "-o", "/dev/full"], capture_output=True, text=True)
+    assert (ended.returncode, ended.stderr) == (1, "table: /dev/full: No space left on device\n")
 
 
 def test_tables_of_a_user(folder):
@@ -145,14 +147,14 @@ def test_own_tables_that_were_edited(folder):
         for name, text in ((nodes, NODES), (arcs, ARCS)):
             (folder / name).write_text(text)
         run_tool("to_network", nodes, arcs, net, "--driving-side", "left")
-        assert "q 1 2" in run_tool("nearest", net, "trips.csv")[0]
+        assert domethyme.Network(net).nearest(0.001, 0)[0] == 1
         edited = nodes if arcs == "others.csv" else arcs
         (folder / edited).write_text((folder / edited).read_text() + "\n")
         says = f"{edited}: has changed since {net}.net was made of it: run `to_network` again"
-        assert_refused("nearest", net, "trips.csv", says=says)
+        assert_refused("without", net, "toll", "out.gr", says=says)
         with pytest.raises(domethyme.NetworkError, match=says):
             domethyme.Network(net).arcs_frame()
         run_tool("to_network", nodes, arcs, net)
-        assert "q 1 2" in run_tool("nearest", net, "trips.csv")[0]
+        assert domethyme.Network(net).nearest(0.001, 0)[0] == 1
         assert net_file.read(f"{net}.net").driving_side == ("left" if net == "firm" else "right")
     assert domethyme.Network("firm").arcs_frame()["from"].tolist() == [0, 1]

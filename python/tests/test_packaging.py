@@ -57,7 +57,7 @@ class CommandTests(ToolCase):
         for name in (JEMALLOC, MIMALLOC):
             shutil.copy(LIBRARY, self.libraries / name)
         path = {name: self.libraries / name for name in (JEMALLOC, MIMALLOC)}
-        for command in ("route", "serve", "answer", "--version"):
+        for command in ("route", "answer", "--version"):
             self.assertEqual(self.ran(command, ROUTECLI_ALLOCATOR="jemalloc"), (f"nothing|{command}|", ""))
         self.assertEqual(self.ran("route", "a b", "", "*"), ("nothing|route|a b||*|", ""))
         self.assertEqual(self.ran(), ("nothing|", ""))
@@ -93,8 +93,8 @@ class CompletionTests(ToolCase):
 
     def test_options_and_values(self):
         for words, *wanted in [
-            ("nearest --ra", "--radius"), ("serve net.rch --log", "--log-places"), ("to-geojson --format l", "lines"),
-            ("osm-to-gr --weight ", "length", "time"), ("route-many net",),
+            ("routes --ra", "--radius"), ("serve net.rch --log", "--log-places"), ("reach --shape l", "lines"),
+            ("osm-to-gr --weight ", "length", "time"), ("routes net",),
         ]:
             self.assertEqual(self.completed(*f"domethyme-{words}".split(" ")), wanted)
         self.assertIn("-h", self.completed("domethyme-fetch-extract", "-"))

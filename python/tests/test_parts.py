@@ -19,7 +19,7 @@ from domethyme import atomic_files, batch, belonging, dimacs, hierarchy_file, li
 from domethyme.network import from_tables, leg_tables, net_file, parallel, reach, snapping
 from domethyme_service import tiles
 from domethyme.network import table_files
-from domethyme_tools import on_roads, table
+from domethyme_tools import places, table
 from domethyme.drawing import roads as draw_roads
 
 BENCH = pathlib.Path(__file__).resolve().parents[2] / "bench"
@@ -60,7 +60,7 @@ def arrays_of(drawn):
 
 def comparing(drawn):
     """What is said of a network with one weight that the hierarchy hasn't, and of its own."""
-    belonging.compare_files(f"{drawn.prefix}.rch", drawn.prefix)
+    domethyme.Hierarchy(f"{drawn.prefix}.rch", network=drawn.prefix).close()
     arrays = arrays_of(drawn)
     arrays.arc_weight = arrays.arc_weight.copy()
     arrays.arc_weight[len(arrays.arc_weight) // 2] += 1
@@ -70,9 +70,9 @@ def comparing(drawn):
     return str(caught.value)
 
 
-def table_by_tool(drawn, *words):
+def table_by_tool(drawn):
     """The table that the tool writes, of seven places."""
-    words = [f"{drawn.prefix}.rch", f"{drawn.prefix}.csv", f"{drawn.prefix}.csv", "--name", "name", *words]
+    words = [f"{drawn.prefix}.rch", f"{drawn.prefix}.csv", f"{drawn.prefix}.csv", "--name", "name"]
     with pytest.MonkeyPatch.context() as patch:
         patch.setattr(sys, "argv", ["table", drawn.prefix, *words, "-o", f"{drawn.prefix}.table.csv"])
         table.main()
@@ -163,8 +163,7 @@ CASES = [
     *((snapping, name, snapped) for name in ("EDGE_CACHE_SIZE", "FEW_PLACES", "MANY_EDGES", "MAX_CANDIDATES", "PLACES_PER_BATCH")),
     (snapping, "SEGMENTS_PER_BATCH", lambda drawn: snapping.RoadIndex(drawn.network).nearest((0.1, 0.1), 100)),
     (table, "CELLS", table_by_tool),
-    (table, "CELLS", lambda drawn: table_by_tool(drawn, "--on-roads")),
-    (on_roads, "SNAP_BATCH", lambda drawn: table_by_tool(drawn, "--on-roads")),
+    (places, "PLACES_AT_ONCE", table_by_tool),
     (dimacs, "ROWS_AT_ONCE", graph_of), (table_files, "ROWS_AT_ONCE", tables_of),
     (tiles, "SEGMENTS_PER_CHUNK", tiles_of),
     (draw_roads, "PART", lambda drawn: plain(draw_roads.read_roads(drawn.network, None))),

@@ -256,9 +256,6 @@ def test_closed() -> None:
     (point,) = network.points_on_roads((0.0018, 0.001))
     assert [round(each, 7) for each in (point.lon, point.lat)] == [0.001, 0.001]
     assert run_tool("without", "new", "ferry", "few.gr")[1] == f"without: few.gr: {len(arcs)} of {len(arcs)} arcs\n"
-    pathlib.Path("trips.csv").write_text("from_lon,from_lat,to_lon,to_lat\n0.001,0,0,0\n")
-    lines = [run_tool("nearest", name, "trips.csv")[0].splitlines()[0] for name in ("new", "map")]
-    assert f" {len(arcs)} arcs, checksum " in lines[0] and lines[0][-8:] not in lines[1]
     said = run_tool("reweigh", "new", "speeds.csv", "again")[1].splitlines()
     assert said[-1] == "reweigh: again: 0 arcs changed, 0 closed, and 0 cut off by these" and arcs_of("again") == arcs
     reweighed("12,0\n")  # (then the toll road is the only one to the rest)

@@ -18,14 +18,14 @@ TARGETS = "lat,lon,key\n0,0.0011,two\n0.0009,0.001,three\n"
 # Words, tables of places, and what is said of them. 23171 * 23171 is 536,895,241, and 2^29 is 536,870,912.
 MANY = "lon,lat\n" + "0,0\n" * 23171
 REFUSED = [
-    ([], SOURCES, TARGETS + "\n0.03,0,far\n", "targets.csv, row 5: lon 0.0, lat 0.03 is 3,225 m from the nearest node"),
-    (["--on-roads"], SOURCES, TARGETS + "\n0.03,0,far\n", "targets.csv, row 5: lon 0.0, lat 0.03 is 3,225 m from the nearest road"),
-    (["--radius", "11.1"], SOURCES, TARGETS, "sources.csv, row 2: lon 0.0001"),
+    ([], SOURCES, TARGETS + "\n0.03,0,far\n", "targets.csv, row 5: has no road within 1000 m: the nearest is 3,225 m away"),
+    ([], "lon,lat\n0.001,0.02\n", TARGETS, "sources.csv, row 2: has no road within 1000 m: the nearest is 2,113 m away"),
+    (["--radius", "0.5"], "lon,lat\n0,0\n\n0,0.00101\n", TARGETS, "row 4: has no road within 0.5 m: the nearest is 1 m away"),
     ([], SOURCES, TARGETS + "91,0,x\n", "targets.csv, row 4: lat '91' isn't from -90 to 90"),
-    ([], "long,lat\n0,0\n", TARGETS, "sources.csv, row 1: has no column lon"),
+    ([], "east,lat\n0,0\n", TARGETS, "sources.csv, row 1: has no column lon"),
     (["--name", "name"], "name,lon,lat\na,0,0\n", TARGETS, "targets.csv, row 1: has no column name"),
     (["--name", "key"], SOURCES, "key,key,lon,lat\n", "has two columns key"),
-    ([], MANY, MANY, "sources.csv: has 23171 places, which with 23171 targets make more than 536870912 lengths"),
+    ([], MANY, MANY, "sources.csv: has 23171 places, which with 23171 targets make more than 536870912 weights"),
 ]
 PLACE, PLACES = (9.004, 47.004), "name,lon,lat\nhere,9.004,47.004\n"
 
@@ -43,27 +43,29 @@ def table(*words, places=("sources.csv", "targets.csv"), given=""):
 
 
 def test_output_formats(write, files):
-    wanted = "from,1,2\n1,200,300\n2,100,200\n3,,\n"
+    """From the north, nine tenths along a street, it is 10 to the corner, and two streets to the next; to the first target a tenth of
+    7 more, and to the second nine tenths of 100. Streets are 111.2 m, and one is 128.01 m."""
+    wanted = "from,1,2\n1,211,300\n2,101,190\n3,,\n"
     assert table() == table(places=("-", "targets.csv"), given=SOURCES) == wanted
     table("-o", "table.csv")
     assert pathlib.Path("table.csv").read_text() == wanted
-    assert table("--name", "key") == "from,two,three\nnorth,200,300\n'=south,100,200\naway,,\n"
+    assert table("--name", "key") == "from,two,three\nnorth,211,300\n'=south,101,190\naway,,\n"
     table("-o", "table.npy")
     found = np.load("table.npy")
-    assert (found.dtype, found.tolist()) == (np.int64, [[200, 300], [100, 200], [-1, -1]])
-    assert table("--metres", "m") == wanted and pathlib.Path("m").read_text() == "from,1,2\n1,239.21,350.41\n2,128.01,239.21\n3,,\n"
+    assert (found.dtype, found.tolist()) == (np.int64, [[211, 300], [101, 190], [-1, -1]])
+    assert table("--metres", "m") == wanted and pathlib.Path("m").read_text() == "from,1,2\n1,261.45,350.41\n2,139.13,228.09\n3,,\n"
     assert table("--name", "key", places=["sources.csv"] * 2).splitlines()[0] == "from,north,'=south,away"
-    write("at.csv", "lon,lat\n0,0\n0.001,0\n")
-    write("at.co", "p aux sp co 2\nv 1 0 0\nv 2 1000 0\n")
-    for name, words in (("at.csv", []), ("at.csv", ["--on-roads"]), ("at.co", ["--name", "place"])):
-        assert table("--radius", "0", *words, places=[name] * 2) == "from,1,2\n1,0,100\n2,200,0\n"
+    table("--metres", "m.npy", "-o", "table.csv")
+    np.testing.assert_array_equal(np.load("m.npy"), [[261.45, 350.41], [139.13, 228.09], [np.nan] * 2])
+    write("at.csv", "X,Latitude\n0,0\n0.001,0\n")  # (as to_network takes them)
+    assert table("--radius", "0", places=["at.csv"] * 2) == "from,1,2\n1,0,100\n2,200,0\n"
     write("twice.csv", "x,x,key,lon,lat\n8,9,here,0,0\n")  # (columns that nobody asks for)
     assert table("--name", "key", places=["twice.csv"] * 2) == "from,here\nhere,0\n"
     write("none.csv", "lon,lat\n")
     for places, text, shape in [(("none.csv", "targets.csv"), "from,1,2\n", (0, 2)), (("none.csv", "none.csv"), "from\n", (0, 0)),
                                 (("sources.csv", "none.csv"), "from\n1\n2\n3\n", (3, 0))]:
         assert table(places=places) == text
-        table("--on-roads", "-o", "t.npy", places=places)
+        table("-o", "t.npy", places=places)
         assert np.load("t.npy").shape == shape
 
 
@@ -73,6 +75,8 @@ def test_input_that_is_refused(write, files):
         write("sources.csv", sources)
         write("targets.csv", targets)
         assert_refused(*words, *more, "-o", "table.csv", says=says)
+    write("x.co", "p aux sp co 1\nv 1 0 0\n")
+    assert_refused("table", "x.co", *words[2:], says="x.co: has no roads but nodes: `routecli route`")
     for more in (["-o", "targets.csv"], ["--metres", "targets.csv"]):
         assert_refused(*words, *more, says="")
     for places in (["-", "-"], ["sources.csv"]):
@@ -82,6 +86,19 @@ def test_input_that_is_refused(write, files):
     write("own.arcs.csv", ARCS.replace("200", "201"))
     run_tool("to_network", "own.nodes.csv", "own.arcs.csv", "net")
     assert_refused(*words, "-o", "table.csv", says="net.rch: is the hierarchy of another network than net")
+
+
+def test_ferries_alone(write):
+    """No place is on one, so there is no road for any."""
+    write("nodes.csv", "lon,lat\n0,0\n0.01,0\n")
+    write("arcs.csv", "from,to,seconds,highway\n1,2,600,ferry\n2,1,600,ferry\n")
+    write("trips.csv", "from_lon,from_lat,to_lon,to_lat,lon,lat\n0,0,0.01,0,0,0\n")
+    run_tool("to_network", "nodes.csv", "arcs.csv", "net")
+    domethyme.prepare("net.gr", "net.rch", workers=1).close()
+    assert_refused("table", "net", "net.rch", "trips.csv", "trips.csv", says="trips.csv, row 2: has no road within 1000 m")
+    with pytest.raises(domethyme.DomethymeError, match="1 of 1 trips have no road"):
+        run_tool("routes", "net", "net.rch", "trips.csv", "-o", "out.csv")
+    assert pathlib.Path("out.csv").read_text().splitlines()[1] == "0,0,0.01,0,0,0,,,,,from has no road within 1000 m"
 
 
 @pytest.fixture

@@ -192,8 +192,8 @@ def test_numbers():
 
 # By the names of files their readers, and their texts and what is said of them.
 READERS = {"n.nodes.csv": lambda path: from_tables.read_nodes(path, is_beside_graph=True), "n.co": from_tables.read_co,
-           "n.gr": dimacs.read_graph, "answers": dimacs.read_answers}
-HEAD, ODD = "node,osm,lon,lat\n", ", row 1: has nodes that don't fit its pair and its number of arcs"
+           "n.gr": dimacs.read_graph}
+HEAD = "node,osm,lon,lat\n"
 FAULTS = {
     "n.nodes.csv": [
         (HEAD + "2,,0,0\n", ", row 2: has node '2' where node 1 comes next"),
@@ -216,11 +216,6 @@ FAULTS = {
         ("p sp 2 1\na 1 2 4294967296\n", ", row 2: weight 4294967296 isn't from 0 to 4294967295"),
         *((f"p sp 2 {announced}\n" + "a 1 2 3\n" * there, f": has {there} arcs and announces {announced}")
           for there, announced in ((1, 2), (0, 134217728), (2, 1))),
-    ],
-    "answers": [
-        *((text, ", row 1: is no answer of routecli") for text in ("\n", "r 1 2 9\n", "n 1\n", "n 1 2 3\n", "x 1 2\n")),
-        ("n 1 2\n\n", ", row 2: is no answer of routecli"), ("r 1 2 -1 1 1 2\n", ", row 1: the number '-1' isn't an integer"),
-        *((f"r 1 2 9 {route}\n", ODD) for route in ("2 1 2", "0 1 2", "1 1 3", "1 3 2")),
     ],
 }
 

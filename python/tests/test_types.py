@@ -18,7 +18,7 @@ def is_python(path):
 
 STRICT = ("mypy", "--strict", "--cache-dir=/dev/null", "--scripts-are-modules")
 # What pyproject.toml has mypy look at, and a script that is made of the same packages.
-PACKAGES = ("domethyme", "domethyme_service", "domethyme_tools", "domethyme_launcher.py", "domethyme_part.py")
+PACKAGES = ("domethyme", "domethyme_service", "domethyme_tools", "domethyme_launcher.py")
 CHECKS = [ROOT / "packaging/container/domethyme-container"]
 KIT = sorted((ROOT / "tests/kit").glob("*.py"))
 FOLDERS = [PYTHON / "tests", ROOT / "packaging", ROOT / "packaging/container", ROOT / "packaging/web", ROOT / "bench", *sorted((ROOT / "tests").glob("[a-z]*/"))]

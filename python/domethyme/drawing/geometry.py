@@ -37,12 +37,7 @@ def unwrapped(line: Iterable[Point], near: float = 0.0) -> list[Point]:
     for lon, lat in line:
         near = lon + 360 * round((near - lon) / 360)
         found.append((near, lat))
-    return join_lines([found])
-
-
-def join_lines(lines: Iterable[Iterable[Point]]) -> list[Point]:
-    """One line through all places of several lines, in order, without a place that is the one before it again."""
-    return [place for place, _ in itertools.groupby(itertools.chain.from_iterable(lines))]
+    return [place for place, _ in itertools.groupby(found)]
 
 
 def overlap_pieces(lines: Sequence[Line], most: int) -> list[list[Piece]]:

@@ -189,10 +189,11 @@ def read_number(properties: dict[str, Any], name: str, place: FeatureRef) -> flo
 
 
 def read_steps(properties: dict[str, Any], place: FeatureRef) -> list[tuple[str, float]]:
-    """The streets of a route with their metres; none where it has no steps."""
+    """The streets of a route with their metres, each once where several steps are on it; none where it has no steps."""
     steps = properties.get("steps", [])
     place.require(isinstance(steps, list) and all(isinstance(step, dict) for step in steps), "has no list of steps")
-    return [(str(step.get("name") or ""), read_number(step, "metres", place)) for step in steps]
+    streets = [(str(step.get("name") or ""), read_number(step, "metres", place)) for step in steps]
+    return [(name, sum(metres for _, metres in some)) for name, some in itertools.groupby(streets, lambda street: street[0])]
 
 
 def names_along(line: list[Point], steps: list[tuple[str, float]]) -> list[tuple[str, Point]]:

@@ -39,16 +39,16 @@ class RoadRoute(NamedTuple):
     the network has none, its metres, the streets with their metres and seconds, its line (lon, lat), of two points or more, and
     `turns`, what to do in order, None unless that was asked for. Its text in a session leaves out the line."""
 
-    weight: int | None = None
-    arcs: int | None = None
-    seconds: float | None = None
-    metres: float | None = None
-    steps: list[dict[str, Any]] | None = None
-    line: list[Point] | None = None
+    weight: int
+    arcs: int
+    seconds: float | None
+    metres: float
+    steps: list[dict[str, Any]]
+    line: list[Point]
     turns: list[dict[str, Any]] | None = None
 
     def __repr__(self) -> str:
-        return f"<RoadRoute: {described(self)}, {len(self.line or ())} points>"
+        return f"<RoadRoute: {described(self)}, {len(self.line)} points>"
 
 
 class Directions(NamedTuple):
@@ -77,7 +77,7 @@ class Directions(NamedTuple):
     @property
     def steps(self) -> list[dict[str, Any]]:
         """The streets of all legs, with their metres and seconds."""
-        return [step for leg in self.legs for step in leg.steps or ()]
+        return [step for leg in self.legs for step in leg.steps]
 
     @property
     def turns(self) -> list[dict[str, Any]]:
@@ -87,7 +87,7 @@ class Directions(NamedTuple):
     @property
     def line(self) -> list[Point]:
         """The points (lon, lat) of the whole route, of which none is the one before: two or more."""
-        points = [point for point, _ in itertools.groupby(point for leg in self.legs for point in leg.line or ())]
+        points = [point for point, _ in itertools.groupby(point for leg in self.legs for point in leg.line)]
         return points if len(points) > 1 else points * 2
 
     def geojson(self) -> dict[str, Any]:
@@ -120,7 +120,7 @@ class Tour(NamedTuple):
 def described(route: Directions | RoadRoute) -> str:
     """The figures of a route, as a session shows them."""
     seconds = "" if route.seconds is None else f", {route.seconds:.12g} s"
-    return f"weight {route.weight}, {route.metres:.12g} m{seconds}" if route.metres is not None else "no path"
+    return f"weight {route.weight}, {route.metres:.12g} m{seconds}"
 
 
 class Matching:
@@ -217,7 +217,7 @@ def directions_along(
     """The route along parts from each point to the next; stops as RouteGeometry has them."""
     ends = itertools.pairwise(range(len(points)) if stops is None else stops)
     legs = [route_along(roads, points[first : last + 1], parts[first:last], has_turns) for first, last in ends]
-    weight, metres = sum(leg.weight or 0 for leg in legs), round(sum(leg.metres or 0.0 for leg in legs), 2)
+    weight, metres = sum(leg.weight for leg in legs), round(sum(leg.metres for leg in legs), 2)
     seconds = round(sum(leg.seconds or 0.0 for leg in legs), 3) if roads.has_seconds else None
     return Directions(weight, seconds, metres, legs, list(points), roads.texts[0])
 

@@ -54,12 +54,6 @@ def multi_geometry(kind: str, parts: list[Any]) -> dict[str, Any]:
     return {"type": kind, "coordinates": parts[0]} if len(parts) == 1 else {"type": f"Multi{kind}", "coordinates": parts}
 
 
-def to_multilinestring(line: Sequence[Point]) -> str:
-    """A line as WKT: a LINESTRING, or where it crosses the 180th meridian a MULTILINESTRING."""
-    parts = [format_linestring(part) for part in split_at_antimeridian(line)]
-    return parts[0] if len(parts) == 1 else f"MULTILINESTRING ({', '.join(part.removeprefix('LINESTRING ') for part in parts)})"
-
-
 def metres_between(lon_1: float, lat_1: float, lon_2: float, lat_2: float) -> float:
     """The length of the great circle's arc between two places in degrees."""
     phi_1, phi_2 = math.radians(lat_1), math.radians(lat_2)

@@ -354,14 +354,6 @@ class MappedNetwork(NetworkColumns):
         found[self.arc_edge[::-1]] = np.arange(len(self.arc_edge))[::-1]
         return found
 
-    @property
-    def checksum(self) -> str:
-        """Eight digits that change with the ends and the weights of arcs."""
-        columns = self.file.columns
-        closed = ["out_arcs"] * (len(columns["out_arcs"]) < len(columns["arc_from"]))
-        sums = [columns[name].checksum for name in ("arc_from", "arc_to", "arc_weight", *closed)]
-        return f"{zlib.crc32(np.array(sums, '<u4').tobytes()):08x}"
-
     def key(self, node: int) -> str | None:
         """The key of a node; None where nodes have none."""
         return self.texts[int(self.node_texts[node])] if self.has_keys else None

@@ -5,7 +5,6 @@ from collections.abc import Sequence
 import numpy as np
 from numpy.typing import NDArray
 
-from .. import belonging
 from ..errors import NetworkError
 from ..program import StrPath
 from . import net_file
@@ -22,12 +21,6 @@ class NodeIndex:
         """Those of a mapped file, which has no arcs where it was made of a table of nodes or of a DIMACS .co file alone."""
         self.osm, self.lon, self.lat, self.ends = arrays.node_osm, arrays.node_lon, arrays.node_lat, arrays.node_ends
         self._arrays, self._has_arcs = arrays, has_arcs
-
-    def origin(self, name: str) -> belonging.Origin:
-        """What pairs of these nodes say of their network, whose name is given."""
-        if not self._has_arcs:
-            return belonging.Origin(name, len(self.lon))
-        return belonging.Origin(name, len(self.lon), len(self._arrays.out_arcs), self._arrays.checksum)
 
     def keys(self) -> Sequence[str]:
         return self._arrays.keys()

@@ -1,7 +1,7 @@
 """Draws routes, or what is reached, over their network: a picture, or a page for a browser that needs no connection.
 
-NETWORK is the prefix of the network's files, of which NETWORK.net is read, or without it the tables. ROUTES is what `to_geojson` wrote as a collection or as
-lines, or what `reach` wrote as polygons (`-` is standard input). OUT is a picture (SVG) if its name ends in .svg, and a page
+NETWORK is the prefix of the network's files, of which NETWORK.net is read, or without it the tables. ROUTES is what `routes`
+wrote as GeoJSON, or what `reach` wrote as polygons (`-` is standard input). OUT is a picture (SVG) if its name ends in .svg, and a page
 (HTML) if it ends in .html.
 
 A picture leaves out small roads where there are so many that it has no room for them. Both show the roads in grey, around the routes or with --full-network all of them; each route in a colour, from a ring to a
