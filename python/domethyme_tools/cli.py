@@ -81,6 +81,12 @@ def argument_parser(doc: str | None, *examples: str) -> argparse.ArgumentParser:
     return argparse.ArgumentParser(description=doc, epilog=epilog, formatter_class=argparse.RawDescriptionHelpFormatter)
 
 
+def add_scheduler(parser: argparse.ArgumentParser) -> None:
+    """Adds the option by which workers of Dask answer."""
+    says = "the address, or the file, of a Dask scheduler whose workers answer; `local`: processes of this machine"
+    parser.add_argument("--scheduler", metavar="ADDRESS", help=says)
+
+
 def add_compare_all(parser: argparse.ArgumentParser) -> None:
     parser.add_argument("--compare-all", action="store_true", help="compare all links, also of more than ten million")
 

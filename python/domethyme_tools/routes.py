@@ -17,6 +17,9 @@ The others are empty if there is no path, too. In a feature null is empty, and i
 where it crosses the 180th meridian. With --steps it has `steps`, a list of what to do in order, each with type and modifier (as
 `turn` and `left`), name, metres and seconds. If TRIPS has a column of one of these names, ours has `route_` before it.
 
+With --scheduler the workers of Dask answer blocks of trips, and OUT is the same to the byte. They have these tools, and the files
+by the same paths.
+
 OUT is whole, or as it was before. A row that can't be read is refused, and nothing is written.
 
 Exit status: 0; 1 for bad input, a failed write or a place without a road, with one line on standard error that names file and row;
@@ -39,7 +42,7 @@ from domethyme.network.tables import paths_of
 
 from .blocks import Job, answer_rows
 from .cli import (
-    ToolError, add_compare_all, argument_parser, refuse_overwriting, to_json, write_collection, write_rows
+    ToolError, add_compare_all, add_scheduler, argument_parser, refuse_overwriting, to_json, write_collection, write_rows
 )
 from .places import FROM_TO, Places, add_radius, need_roads, read_table, what_is_wrong
 
@@ -58,7 +61,7 @@ def parse_args() -> argparse.Namespace:
     parser = argument_parser(
         __doc__,
         "%(prog)s out/li out/li.rch examples/liechtenstein.csv -o out/li.geojson --steps",
-        "%(prog)s out/li out/li.rch trips.csv -o out/routes.csv",
+        "%(prog)s out/li out/li.rch trips.csv -o out/routes.csv --scheduler local",
     )
     parser.add_argument("network", metavar="NETWORK", help="the network")
     parser.add_argument("hierarchy", metavar="HIERARCHY", help="its hierarchy")
@@ -66,6 +69,7 @@ def parse_args() -> argparse.Namespace:
     parser.add_argument("-o", dest="output", metavar="OUT.geojson|OUT.csv", required=True, help="the routes")
     parser.add_argument("--steps", action="store_true", help="turn-by-turn instructions too, for GeoJSON")
     add_radius(parser, "a place that is further from each road has a problem")
+    add_scheduler(parser)
     add_compare_all(parser)
     options = parser.parse_args()
     if not options.output.endswith((GEOJSON, CSV)):
@@ -153,7 +157,7 @@ def main() -> None:
             problems.append(block.problems)
             yield block.text
 
-    answers = contextlib.closing(answer_rows(job, trips, TRIPS_PER_BLOCK))
+    answers = contextlib.closing(answer_rows(job, trips, TRIPS_PER_BLOCK, options.scheduler))
     with answers as blocks, atomic_write(options.output) as file:
         if is_table:
             write_rows(file, [columns])

@@ -16,7 +16,8 @@ With --metres FILE another table of the same form has the metres along a path of
 numpy it is of float64, with NaN for no path.
 
 The lengths between nodes are computed by the proved library; which points are nearest, and the parts of roads, are tested. Rows are
-written as they are made, so that a large table needs little memory; it has at most 2^29 weights. A file
+written as they are made, so that a large table needs little memory; it has at most 2^29 weights. With --scheduler the workers of
+Dask answer blocks of rows, and the table is the same to the byte. They have these tools, and the files by the same paths. A file
 that is written is whole or not there.
 
 Exit status: 0; 1 for bad input or a failed write, with one line on standard error that names file and row; 2 for
@@ -40,7 +41,7 @@ from domethyme.network.network import Network
 from domethyme.network.tables import paths_of
 
 from .blocks import Job, answer_rows
-from .cli import ToolError, add_compare_all, argument_parser, refuse_overwriting
+from .cli import ToolError, add_compare_all, add_scheduler, argument_parser, refuse_overwriting
 from .places import Places, add_radius, need_near, need_roads, read_table
 
 # Weights that are computed together, 8 bytes each.
@@ -61,6 +62,7 @@ def parse_args() -> argparse.Namespace:
     parser.add_argument("--name", metavar="COLUMN", help="the column with the names of places (default: their numbers)")
     parser.add_argument("--metres", metavar="FILE", help="where the metres along these paths are written too")
     add_radius(parser, "refuse a place that is further from each road")
+    add_scheduler(parser)
     add_compare_all(parser)
     options = parser.parse_args()
     if options.sources == options.targets == "-":
@@ -147,7 +149,7 @@ def main() -> None:
     job = TableJob(*files, options.radius, targets.places[0], options.metres is not None)
     size = max(1, CELLS // max(1, len(target_names)))
     with contextlib.ExitStack() as opened:
-        blocks = opened.enter_context(contextlib.closing(answer_rows(job, sources.places[0], size)))
+        blocks = opened.enter_context(contextlib.closing(answer_rows(job, sources.places[0], size, options.scheduler)))
         writers = [
             opened.enter_context((npy_writer if path.endswith(".npy") else csv_writer)(path, source_names, target_names, kind))
             for path, kind in [(options.output, "<i8"), *([(options.metres, "<f8")] if options.metres else [])]

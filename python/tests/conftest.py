@@ -5,7 +5,7 @@ import pytest
 from kit import optional
 
 # Tests that mostly wait, or take longest: each begins in a worker of its own, before all others.
-FIRST = ["AttackTests", "ReplacedTests", "test_web.py", "test_page.py"]
+FIRST = ["AttackTests", "ReplacedTests", "test_dask.py", "test_web.py", "test_page.py"]
 
 
 @pytest.fixture
