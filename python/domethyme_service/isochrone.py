@@ -16,7 +16,7 @@ from .osrm import Engine, snap_places
 from .osrm_request import Request
 from .parameters import CONTOURS_COLORS, CONTOURS_METERS, CONTOURS_MINUTES, DENOISE, GENERALIZE, POLYGONS, REVERSE, Values
 
-# Nodes that may be reached. To draw four contours of a million took up to 140 MB and 5 seconds (bench/contours.py).
+# Nodes that may be reached. To draw four contours of a million took up to 140 MB and 5 seconds.
 MAX_REACHED = 4_000_000
 
 
