@@ -1,7 +1,4 @@
 """Tests of draw: three streets on the equator by hand, where a thousandth of a degree is 111.195 m both ways."""
-import base64
-import hashlib
-import html
 import itertools
 import json
 import re
@@ -9,7 +6,6 @@ import xml.etree.ElementTree as xml
 from unittest import mock
 
 import pytest
-from browser import Browser
 from draws import run_tool
 from tool_case import VILLAGE, ToolCase, contrast
 
@@ -17,8 +13,6 @@ import domethyme
 from domethyme import DomethymeError
 from domethyme.drawing import geometry, picture, roads, routes
 from domethyme.network import net_file
-from domethyme_tools.cli import ToolError
-from domethyme_tools.draw import page
 
 # High Street has two directions, and Far Road lies two hundredths of a degree in the north.
 ARCS = """\
@@ -60,15 +54,6 @@ REFUSED = [
 ]
 
 
-# Of each layer of a page its class or colour, width, filling and dashes, its places, and the pixels of these.
-LAYERS = """(() => { const found = []; map.eachLayer((layer) => {
-  const {className, color, weight, fillColor = null, dashArray = null} = layer.options;
-  const points = layer.getRadius ? [layer.getLatLng()] : layer.getLatLngs ? layer.getLatLngs().flat(2) : [];
-  const pixels = points.map((each) => map.latLngToContainerPoint(each)), look = [className ?? color, weight, fillColor, dashArray];
-  if (points.length) found.push([...look, points.map(({lat, lng}) => [lng, lat]), pixels.map(({x, y}) => [x, y])]);
-}); return found; })()"""
-
-
 def texts_at(picture, path="./g[@transform]/text"):
     return ["".join(element.itertext()) for element in picture.findall(path)]
 
@@ -106,7 +91,7 @@ class Draw(ToolCase):
         self.network(f"{NODES}6,,0.012,0.02\n", f'{ARCS}5,6,1,1,9,104,residential,,"LINESTRING (0.004 0.02, 0.012 0.02)"\n')
 
     def drawn(self, name, *features, words=("--label", "trip"), network="net", text=""):
-        """The text of a picture or page of the features, or of a text of routes."""
+        """The text of a picture of the features, or of a text of routes."""
         path = self.write("routes.json", text or json.dumps({"type": "FeatureCollection", "features": features}))
         run_tool("draw", self.folder / network, path, self.folder / name, *words)
         return (self.folder / name).read_text()
@@ -114,10 +99,6 @@ class Draw(ToolCase):
     def picture_of(self, *features, **more):
         """The root of a picture of the features, without the names of its space."""
         return xml.fromstring(self.drawn("out.svg", *features, **more).replace(' xmlns="http://www.w3.org/2000/svg"', ""))
-
-    def page_of(self, *features, **more):
-        text = self.drawn("out.html", *features, **more)
-        return text, json.loads(re.search(r'<script type="application/json" id="data">\n(.*)\n</script>', text)[1])
 
     def assert_refused_here(self, says, *features, **more):
         """Nothing is written, and an old picture stays."""
@@ -192,7 +173,6 @@ class Draw(ToolCase):
             with mock.patch.object(roads, "MAX_POINTS", most):
                 shown = self.picture_of(EAST, words=["--full-network"])
                 assert roads_in(shown) == {each: 1 for each in whole if each >= width} and size_of(shown) == ("714", "1052")
-                assert [len(kind["lines"]) for kind in self.page_of(NO_WAY)[1]["roads"]] == [1, 1, 0, 1, 0]
         arcs = ARCS + ARCS.splitlines(keepends=True)[1].replace("101", "109")  # (a road in the same place is drawn once)
         for highway, width in zip("motorway trunk_link secondary tertiary_link path".split(), "3.6 3.6 2.4 1.8 1.2".split()):
             self.network(NODES, arcs.replace("tertiary", "primary").replace("primary_link", highway))
@@ -201,7 +181,6 @@ class Draw(ToolCase):
         self.network(NODES, ARCS.replace(",WKT", ",structure,WKT").replace(',"LINE', ',,"LINE').replace("Slip,,", "Slip,tunnel,"))
         dashes = roads_in(self.picture_of(EAST), lambda path: path.get("stroke-dasharray"))
         assert [*dashes.items()] == [("3", "5 4"), ("1.8", None)]
-        assert [kind["dashes"] for kind in self.page_of(EAST)[1]["roads"]] == [None] * 5 + ["5 4"]
 
     def test_legend_and_titles(self):
         drawn = self.picture_of(EAST, WEST, NO_WAY)
@@ -248,12 +227,6 @@ class Draw(ToolCase):
         rising = [contrast("#fbfaf8", stroke) for stroke in strokes.values()]
         dots = {dot.get("fill") for dot in self.picture_of(*[WEST] * 8).findall("./g[@clip-path]/circle")[1::2]}
         assert len(dots) == 8 and rising == sorted(rising) and min(*rising, *(contrast("#fbfaf8", colour) for colour in dots)) >= 3
-        text, data = self.page_of(*[EAST] * 9)
-        assert [each["colour"] for each in data["routes"]] == [0, 1, 2, 3, 4, 5, 6, 7, 0]
-        found = re.findall(r"^\.colour-\d { --light: (#\w{6}); --dark: (#\w{6}); }$", text, re.M)
-        assert {light for light, _ in found} == dots and len(found) == 8
-        rising = [contrast("#1b1c1f", road["dark"]) for road in data["roads"]]
-        assert rising == sorted(rising) and min(*rising, *(contrast("#1b1c1f", dark) for _, dark in found)) >= 3
 
     def test_a_network_of_dimacs(self):
         """Which has small roads alone, and more than there is room for."""
@@ -278,15 +251,14 @@ class Draw(ToolCase):
             assert [float(path.get("stroke-width")) for path in paths] == [*widths]
 
     def test_attribution(self):
-        """That of the network, of the routes, and of --attribution, each once, and as a link on a page."""
+        """That of the network, of the routes, and of --attribution, each once."""
         assert len(self.picture_of(EAST).findall("text")) == 1
         self.write("net.gr", "c attribution: © A & OpenStreetMap\np sp 5 0\n")
-        link, more = '<a href="https://www.openstreetmap.org/copyright">OpenStreetMap</a>', ["--attribution", "<tiles>"]
+        more = ["--attribution", "<tiles>"]
         for own, words, said in ((("© C\n", "© B"), more, ", © C, © B, <tiles>"), (("© A & OpenStreetMap",) * 2, [], "")):
             text = "".join(json.dumps({"type": "FeatureCollection", "attribution": each, "features": [EAST]}) for each in own)
             drawn = self.picture_of(text=text, words=words)
             assert texts_at(drawn, "text")[-1] == f"© A & OpenStreetMap{said}" and texts_at(drawn)[2] == "route 2"
-            assert self.page_of(text=text, words=words)[1]["attribution"] == f"© A &amp; {link}{html.escape(said)}"
 
     def test_areas(self):
         """By the names of their contours, or numbers, in their own colours, or the next ones, a third of each, below the roads."""
@@ -300,9 +272,6 @@ class Draw(ToolCase):
             "#8b877f", "#a8cde1", "evenodd"]
         assert texts_at(drawn)[::2] == texts_at(drawn, "./g/g/title") == ["1234567 m", "2.5 min", "7", "area 4"]
         assert [rect.get("fill") for rect in drawn.findall("./g[@transform]/rect")[1:]] == [path.get("fill") for path in areas]
-        data, (lons, lats) = self.page_of(*features, words=[])[1], zip(*ACROSS)
-        assert [(each["area"]["colour"], len(each["area"]["rings"])) for each in data["routes"]] == wanted
-        assert data["bounds"] == [[min(lats), min(lons)], [max(lats), max(lons)]]
         assert texts_at(self.picture_of(features[0]), "./g/g/title") == ["<b>"]
         nothing = {**NO_WAY, "properties": {"contour": 1, "metric": "time"}}
         assert texts_at(self.picture_of(features[0], nothing, words=[]))[2:] == ["1 min", "nothing"]
@@ -327,53 +296,6 @@ class Draw(ToolCase):
         lines = f"\ufeff{json.dumps(high)}\n{json.dumps(NO_WAY)}\n"
         self.run_tool("draw", "net", "-", "out.svg", "--label", "trip", given=lines)
         assert (self.folder / "out.svg").read_text() == before
-
-    def test_routes_on_the_page(self):
-        east, nowhere = self.page_of(EAST, NO_WAY)[1]["routes"]
-        assert (east["label"], east["figures"], east["ends"]) == (LABEL, "0.44 km, 1.5 min", [0, 0, 4000, 0])
-        assert east["steps"] == [["<High> Street", "222 m"], ["unnamed road", "222 m"]]
-        assert (east["pieces"], east["names"]) == ([[4.5, [0, 0, 1000, 0, 1000, 0, 2000, 0]]], [["<High> Street", 1000, 0]])
-        assert (nowhere["figures"], nowhere["ends"], nowhere["pieces"]) == ("no path", None, [])
-        # 499.8 and 2499.6 of 3999.6 m along a line of 4000 millionths of a degree.
-        steps = [{"name": name, "metres": metres} for name, metres in (("A", 999.6), ("", 0), ("B", 3000), ("C", 0))]
-        [found] = self.page_of(route("x", [[0, 0], [0.001, 0], [0.004, 0]], metres=3999.6, steps=steps))[1]["routes"]
-        assert found["names"] == [["B", 2500, 0], ["A", 500, 0]]
-        assert found["steps"] == [["A", "1.00 km"], ["unnamed road", "0 m"], ["B", "3.00 km"], ["C", "0 m"]]
-
-    def test_roads_of_pages(self):
-        for words, counts in (([], [0, 1, 0, 1, 0]), (["--full-network"], [1, 1, 0, 1, 0])):
-            data = self.page_of(EAST, words=words)[1]
-            assert ([len(kind["lines"]) for kind in data["roads"]], data["bounds"]) == (counts, [[0, 0], [0, 0.004]])
-            assert data["roads"][1]["lines"] == [[0, 0, 1000, 0, 1000, 0]]
-        data = self.page_of(route("n", [[0.004, 0], [0, 0.004]]))[1]
-        assert (data["bounds"], data["routes"][0]["ends"]) == ([[0, 0], [0.004, 0.004]], [4000, 0, -4000, 4000])
-
-    def test_nothing_is_asked_of_a_network(self):
-        """What may run is named by its digest, and the data aren't run."""
-        text, data = self.page_of(EAST)
-        outside = re.sub(r"(?s)<(script|style)\b.*?</\1>", "", text)
-        assert re.findall(r"(?:src|href)=\S+?>", outside) == ['href="data:,">'] and "sourceMappingURL" not in text
-        parts = [re.findall(f"(?s)<{tag}>(.*?)</{tag}>", text) for tag in ("script", "style")]
-        digests = [[base64.b64encode(hashlib.sha256(part.encode()).digest()).decode() for part in some] for some in parts]
-        scripts, styles = (" ".join(f"'sha256-{digest}'" for digest in some) for some in digests)
-        policy = re.findall('Content-Security-Policy" content="(.*?)">', outside)
-        assert policy == [f"default-src 'none'; script-src {scripts}; style-src {styles}; img-src data:"]
-        assert ([*map(len, parts)], data["tiles"], data["mostWithArrows"]) == ([2, 1], None, 20)
-        text, data = self.page_of(EAST, words=["--tiles", "https://tiles.example/{z}/{x}/{y}.png"])
-        assert data["tiles"] == "https://tiles.example/{z}/{x}/{y}.png" and "img-src data: file: http: https:" in text
-
-    def test_texts(self):
-        """Names are no tags, and Leaflet's notice is there once."""
-        text = self.page_of(EAST)[0]
-        assert text.count("</script") == 3
-        for part in ("<title>&lt;/script&gt; &lt;b&gt;&quot;A&quot; &amp; &#x27;B&#x27;&lt;/b&gt;</title>", "Vladimir Agafonkin",
-                     "Redistributions in binary form", "EVEN IF ADVISED OF THE POSSIBILITY"):
-            assert text.count(part) == 1, part
-        for features, title in (([WEST, NO_WAY, WEST, EAST], "west, nowhere, west"), ([], "Roads")):
-            assert f"<title>{title}</title>" in self.page_of(*features)[0]
-        says = "leaflet.css: isn't there: pages need Debian's package libjs-leaflet"
-        with mock.patch.object(page, "LEAFLET", self.folder), pytest.raises(ToolError, match=says):
-            self.page_of(EAST)
 
     def test_texts_that_are_refused(self):
         """And a file without a route, which isn't."""
@@ -414,58 +336,16 @@ class Draw(ToolCase):
 
     def test_arguments_that_are_refused(self):
         for words in [
-            [], [""], ["out.png"], ["-"], ["out.html", "--width", "500"], ["out.svg", "--tiles", "{z}/{x}/{y}"],
-            *(["out.svg", "--width", width] for width in ("0", "wide", "199", "10001")),
-            *(["out.html", "--tiles", f"https://tiles.example/{part}"] for part in ("{z}/{x}", "{z}/{y}", "{x}/{y}"))
+            [], [""], ["out.png"], ["-"], ["out.html"], *(["out.svg", "--width", width] for width in ("0", "wide", "199", "10001"))
         ]:
             with pytest.raises(SystemExit, match="2"):
                 run_tool("draw", "net", *["routes"] * bool(words), *words)
 
 
-    @pytest.mark.needs("chromium")
-    def test_page_in_a_browser(self):
-        """Lines, ends and areas are where they were, arrows as in pictures, and a row of the legend lifts its route."""
-        self.network(NODES, ARCS.replace(",WKT", ",structure,WKT").replace(',"LINE', ',,"LINE').replace("Slip,,", "Slip,tunnel,"))
-        east, line = EAST["geometry"]["coordinates"], [[0.004, 0], [0.004, 0.003], [0.001, 0.004]]
-        north = route("north", line, steps=[{"name": "Up", "metres": 900}])
-        features = area("reached", [ACROSS], fill="#0072b2"), EAST, north, NO_WAY
-        self.page_of(*features, words=["--label", "trip", "--attribution", "© Us"])
-        browser = Browser()
-        self.addCleanup(browser.close)
-        grey = ["#8b877f", "#7c776e"]
-        for is_dark, tint, colours in ((False, "rgb(167,205,225)", grey), (True, "rgb(18,57,80)", grey[::-1])):
-            browser.open(f"file://{self.folder}/out.html", is_dark=is_dark)
-            layers = browser.value(LAYERS)
-            wanted = [("#0072b2", 1, tint, None, ACROSS[:4]), (colours[0], 1.8, None, None, east[:3])]
-            wanted += [(colours[1], 3, None, "5 4", east[2:])]
-            for number, way in enumerate((east, line)):
-                look, name = f"colour-{number + 1}", f"route route-{number}"
-                looks = ("edge", 7, way), (f"{name} {look}", 4.5, way), (f"ring {look}", 3, way[:1]), (f"dot {look}", 2, way[-1:])
-                wanted += [(name, width, None, None, places) for name, width, places in looks]
-                [pixels] = [each[5] for each in layers if each[0] == f"{name} {look}"]
-                tips = [each[5][0] for each in layers if each[0] == f"arrow arrow-of-route-{number} {look}"]
-                for tip, ((x, y), (right, down)) in zip(tips, geometry.arrows(pixels, 130), strict=True):
-                    assert tip == pytest.approx([x + 7 * right, y + 7 * down], abs=1)
-            shown = [(*look, [[round(each, 9) for each in place] for place in places]) for *look, places, _ in layers]
-            assert sorted(each for each in shown if not each[0].startswith("arrow")) == sorted(wanted)
-        told = {".legend": f"What is reached\nreached\n{LABEL}\n0.44 km, 1.5 min\nnorth\n0.44 km, 1.5 min\nnowhere\nno path",
-                ".leaflet-popup-content": "north\n0.44 km, 1.5 min\nUp\t900 m", ".leaflet-control-attribution": "Leaflet | © Us"}
-        row = "document.querySelectorAll('.legend button')[2]"
-        script = "[...document.querySelectorAll('path.route.faded')].map((each) => each.classList[1])"
-        assert browser.value(f"{row}.focus(), {script}") == ["route-0"]
-        browser.value(f"{row}.click()")
-        assert {name: browser.value(f"document.querySelector('{name}').innerText.trim()") for name in told} == told
-        texts = browser.value("[...document.querySelectorAll('.name')].map((each) => each.innerText)")
-        assert {"north", "Up", f"{LABEL[:23]}…"} == {*texts}
-        script = "[14.75, 15].map((zoom) => map.setZoom(zoom, {animate: false}) && document.querySelectorAll('.street').length)"
-        assert browser.value(script) == [0, 1]  # (the names of streets come with zoom 15)
-        browser.value("map.setZoom(5, {animate: false}), document.querySelector('a.all').click()")
-        browser.until("map.getBounds().contains(data.bounds) && map.getZoom() > 16")
-        assert not browser.faults and {*browser.asked} == {f"file://{self.folder}/out.html"}
 
 
 A, B, C, D = (0, 0), (1, 0), (2, 0), (3, 0)
-BENT, WIDE = [(0, 0), (1, 0), (1, 0), (1, 3)], [(0, 0), (1, 0), (2, 0), (2, 9), (9, 9)]
+WIDE = [(0, 0), (1, 0), (2, 0), (2, 9), (9, 9)]
 # By the projection of web maps 45 degrees north lie at log(1 + sqrt(2)) / (2 pi) = 0.140275 above the middle. Steps are between
 # places that are rounded, so what is left out of one is in a later one. At 60 degrees a degree to the east is half as long.
 GEOMETRY = [
@@ -474,16 +354,11 @@ GEOMETRY = [
     *((geometry.from_mercator, geometry.to_mercator([place]), pytest.approx(place)) for place in ((-180, 0), (20, 45), (179, -60))),
     (geometry.path_of, ([(0, 0), (0.04, 0), (0.08, 0), (0.12, -0.04)],), "M0 0l0.1 0"),
     (geometry.path_of, ([(-123_456.7, 0), (1_234_567.8, 0)],), "M-123456.7 0l1358024.5 0"),
-    (geometry.delta_encode, ([(0, 1), (4e-7, 1), (8e-7, 1 + 4e-7)],), [0, 1_000_000, 0, 0, 1, 0]),
     (geometry.overlap_pieces, ([[A, B, C, D], [C, B, A, B], [B, C]], 9),
      [[(1, [A, B]), (2, [B, C]), (0, [C, D])], [(1, [C, B]), (0, [B, A, B])], [(0, [B, C])]]),
     (geometry.overlap_pieces, ([[A, B], [A, B], [A, B], []], 1), [[(1, [A, B])], [(1, [A, B])], [(0, [A, B])], []]),
     (geometry.arrows, ([(0, 0), (10, 0), (10, 10)], 8), [((4, 0), (1, 0)), ((10, 2), (0, 1))]),
     (geometry.arrows, ([(0, 0), (0, 0), (0, -3)], 2), [((0, -1), (0, -1))]), (geometry.arrows, ([(0, 0), (0, 0)], 2), []),
-    *((geometry.point_at_fraction, (BENT, share), pytest.approx(place)) for share, place in (
-        (0, (0, 0)), (0.125, (0.5, 0)), (0.25, (1, 0)), (0.5, (1, 1)), (1, (1, 3)))),
-    (geometry.point_at_fraction, ([(5, 6), (5, 6)], 0.5), (5, 6)),
-    (geometry.point_at_fraction, ([(0, 60), (1, 60), (1, 61)], 2 / 3), pytest.approx((1, 60.5))),
     *((geometry.scale_bar_metres, (metres,), bar) for metres, bar in (
         (1, 1), (1.99, 1), (4.9, 2), (5, 5), (999, 500), (1000, 1000), (2500, 2000), (0.3, 0.2))),
     (picture.spaced, (WIDE, 1.5), [(0, 0), (2, 0), (2, 9), (9, 9)]),
@@ -501,12 +376,10 @@ def test_geometry(call, words, wanted):
 
 
 def test_views():
-    """The bar is a fifth of 4.4, of 5.6 and of 55.6 km. A page has a quarter of its height more on each side than a picture."""
+    """The bar is a fifth of 4.4, of 5.6 and of 55.6 km."""
     for degrees, said in ((0.04, "500 m"), (0.05, "1 km"), (0.5, "10 km")):
         view = geometry.View(geometry.box_of(geometry.to_mercator([(0, 0), (degrees, 0)])), 1000)
         assert f">{said}</text>" in "".join(picture.draw_foot("", view))
-    box, high = roads.box_for([(0, 0), (0.004, 0)], False), 0.0043973
-    assert (360 * box.width, 360 * box.height) == pytest.approx((0.0083973 + high / 2, 1.5 * high), rel=1e-4)
 
 
 def test_roads_in_boxes(tmp_path, monkeypatch):

@@ -38,6 +38,7 @@ from domethyme.router import Router
 from domethyme_service.tiles import Tiles
 from domethyme_tools import page
 from domethyme_tools.cli import ToolError
+from domethyme_tools.page import leaflet
 from domethyme_tools.page.bundle import bundled
 from domethyme_tools.page.hierarchy import NO_MIDDLE, columns_of as columns_of_hierarchy
 from domethyme_tools.page.network import network_bytes, preferred, split_nodes
@@ -454,3 +455,13 @@ def test_arcs_of_one_weight(drawn_arcs):
 def test_modules_that_can_not_be_joined(text, says):
     with pytest.raises(ToolError, match=re.escape(says)):
         bundled({"a.js": text, "b.js": "export const c = 1;\n"}, "a.js")
+
+
+def test_leaflet_with_its_licence(tmp_path, monkeypatch):
+    """What a page embeds names no other file, and the notice has the licence once."""
+    assert "sourceMappingURL" not in leaflet.of_leaflet("leaflet.min.js") + leaflet.of_leaflet("leaflet.css")
+    for part in ("Vladimir Agafonkin", "Redistributions in binary form", "EVEN IF ADVISED OF THE POSSIBILITY"):
+        assert leaflet.leaflet_notice().count(part) == 1, part
+    monkeypatch.setattr(leaflet, "LEAFLET", tmp_path)
+    with pytest.raises(ToolError, match="leaflet.css: isn't there: pages need Debian's package libjs-leaflet"):
+        leaflet.of_leaflet("leaflet.css")

@@ -15,7 +15,6 @@ Line = Sequence[Point]
 Piece = tuple[int, list[Point]]
 
 GREATEST_LATITUDE = 85.05
-MILLIONTHS = 1_000_000
 TENTHS = 10
 
 
@@ -67,20 +66,6 @@ def arrows(pixels: Line, every: float) -> list[tuple[Point, Point]]:
             due += every
         due -= length
     return found
-
-
-def point_at_fraction(places: Line, share: float) -> Point:
-    """The place at which a share of the line's way, from 0 to 1, is behind. For lines that are short beside the earth."""
-    narrow = math.cos(math.radians(places[0][1]))
-    steps = list(itertools.pairwise(places))
-    lengths = [math.hypot((end[0] - start[0]) * narrow, end[1] - start[1]) for start, end in steps]
-    left = share * sum(lengths)
-    for (start, end), length in zip(steps, lengths):
-        if left <= length > 0:
-            part = left / length
-            return start[0] + (end[0] - start[0]) * part, start[1] + (end[1] - start[1]) * part
-        left -= length
-    return places[-1]
 
 
 class Box(NamedTuple):
@@ -148,13 +133,6 @@ def path_of(pixels: Iterable[Point]) -> str:
     begin, *steps = from_before([place for place, _ in tenths])
     texts = [f"{x / TENTHS:.12g} {y / TENTHS:.12g}" for x, y in (begin, *(steps or [(0, 0)]))]
     return f"M{texts[0]}l{' '.join(texts[1:])}"
-
-
-def delta_encode(places: Iterable[Point]) -> list[int]:
-    """A line as a flat list of whole millionths of a degree: the first place, and each other as its difference from the
-    one before, longitude first."""
-    whole = [(round(lon * MILLIONTHS), round(lat * MILLIONTHS)) for lon, lat in places]
-    return list(itertools.chain.from_iterable(from_before(whole)))
 
 
 def from_before(points: Sequence[tuple[int, int]]) -> list[tuple[int, int]]:

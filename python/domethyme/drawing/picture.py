@@ -33,7 +33,7 @@ HALO = f' paint-order="stroke" stroke="{PAPER}" stroke-width="3" stroke-linejoin
 def svg_of(arrays: MappedNetwork, name: str, features: Iterable[Any], width: int) -> str:
     """The picture of features of GeoJSON, whose name messages have, over the roads of their network around them."""
     routes = routes_of(features, name, None)
-    box, roads = make_scene(arrays, routes, False, True, name)
+    box, roads = make_scene(arrays, routes, False, name)
     return picture_of(routes, roads, View(box, width), arrays.texts[0])
 
 

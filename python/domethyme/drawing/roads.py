@@ -17,12 +17,11 @@ from .routes import DrawnRoute
 
 
 class RoadStyle(NamedTuple):
-    """How roads of some kinds are drawn, the least important first; `dark` is their colour where the page is dark."""
+    """How roads of some kinds are drawn, the least important first."""
 
     highways: tuple[str, ...]
     width: float
     colour: str
-    dark: str
 
 
 class RoadLines(NamedTuple):
@@ -34,11 +33,11 @@ class RoadLines(NamedTuple):
 
 
 ROAD_STYLES = [
-    RoadStyle((), 1.2, "#918d86", "#726d64"),
-    RoadStyle(("tertiary",), 1.8, "#8b877f", "#7c776e"),
-    RoadStyle(("secondary",), 2.4, "#847f77", "#847f77"),
-    RoadStyle(("primary",), 3, "#7c776e", "#8b877f"),
-    RoadStyle(("motorway", "trunk"), 3.6, "#726d64", "#918d86"),
+    RoadStyle((), 1.2, "#918d86"),
+    RoadStyle(("tertiary",), 1.8, "#8b877f"),
+    RoadStyle(("secondary",), 2.4, "#847f77"),
+    RoadStyle(("primary",), 3, "#7c776e"),
+    RoadStyle(("motorway", "trunk"), 3.6, "#726d64"),
 ]
 STYLE_OF = {highway: number for number, style in enumerate(ROAD_STYLES) for highway in style.highways}
 TUNNEL = "tunnel"
@@ -133,41 +132,29 @@ def wrapped_lon(lon: float) -> float:
     return (lon + 180) % 360 - 180
 
 
-def box_for(places: list[Point], is_picture: bool) -> Box:
-    """The box around places, with a tenth of its greater side, and at least 200 metres, on each side: in a shape that suits
-    a picture, or as wide as a window, with room to move the map, for a page."""
+def box_for(places: list[Point]) -> Box:
+    """The box around places, with a tenth of its greater side, and at least 200 metres, on each side, in a shape that suits a picture."""
     box = box_of(to_mercator(places))
-    box = box.grown(max(box.width, box.height) / 10 + 200 / box.metres)
-    if is_picture:
-        return box.shaped(0.56, 1.4)
-    wide = box.shaped(0.5, 0.7)
-    return wide.grown(wide.height / 4)
-
-
-def all_places(roads: list[RoadLines]) -> list[Point]:
-    """The places of all roads, which aren't none."""
-    return [place for of_kind in roads for line in of_kind.lines for place in line]
+    return box.grown(max(box.width, box.height) / 10 + 200 / box.metres).shaped(0.56, 1.4)
 
 
 def make_scene(
-    arrays: MappedNetwork, routes: list[DrawnRoute], is_whole: bool, is_picture: bool, path: str,
+    arrays: MappedNetwork, routes: list[DrawnRoute], is_whole: bool, path: str,
     on_progress: OnProgress = lambda what, done, total: None
 ) -> tuple[Box, list[RoadLines]]:
-    """The box to show, and its roads, of a picture only those that have room. Raises a NetworkError where the routes of the file at the
-    path are another network's."""
+    """The box to show, and its roads that have room. Raises a NetworkError where the routes of the file at the path are another network's."""
     need_inside(arrays, routes, path)
-    most = MAX_POINTS if is_picture else None
     places = list(itertools.chain.from_iterable(route.places for route in routes))
     if places and not is_whole:
-        box = box_for(places, is_picture)
-        return box, read_roads(arrays, box, most, on_progress)
+        box = box_for(places)
+        return box, read_roads(arrays, box, MAX_POINTS, on_progress)
     if not len(arrays.arc_from):
         raise NetworkError("has no arcs", arrays.path)
     west, south, east, north = arrays.box
     middle = (west + east) / 2
     near = middle + 360 * round((places[0][0] - middle) / 360) if places else middle  # (on the routes' side of the world)
-    box = box_for([(west - middle + near, south), (east - middle + near, north)], is_picture)
-    return box, read_roads(arrays, None, most, on_progress, near)
+    box = box_for([(west - middle + near, south), (east - middle + near, north)])
+    return box, read_roads(arrays, None, MAX_POINTS, on_progress, near)
 
 
 def need_inside(arrays: MappedNetwork, routes: list[DrawnRoute], path: str) -> None:

@@ -8,7 +8,7 @@ from typing import Any, NamedTuple
 from ..csv_tables import open_input
 from ..errors import NetworkError
 from ..network.geo import Point
-from .geometry import overlap_pieces, point_at_fraction, unwrapped
+from .geometry import overlap_pieces, unwrapped
 
 COLOURS = ["#0072b2", "#d55e00", "#009e73", "#cc5f9c", "#b8860b", "#2b8fc7", "#7b3294", "#5b7a1f"]
 NARROWEST, STEP_OF_WIDTH, MAX_NESTED = 4.5, 4, 3
@@ -22,22 +22,16 @@ NOT_BLANK = re.compile(r"\S")
 
 
 class DrawnRoute(NamedTuple):
-    """A route as it is shown: its streets with their ways, as texts, its places, or None where there is no route, its streets with
-    their metres, and the pieces of its line with their widths. An area has rings in place of a line."""
+    """A route as it is shown: its streets with their ways, as texts, its places, or None where there is no route, and the pieces of its
+    line with their widths. An area has rings in place of a line."""
 
     label: str
     figures: str
     colour: str
     steps: list[tuple[str, str]] = []
     line: list[Point] | None = None
-    streets: list[tuple[str, float]] = []
     pieces: list[tuple[float, list[Point]]] = []
     rings: list[list[Point]] = []
-
-    @property
-    def names(self) -> list[tuple[str, Point]]:
-        """The names of its streets with a place in the middle of each, the longest first."""
-        return names_along(self.line, self.streets) if self.line else []
 
     @property
     def places(self) -> list[Point]:
@@ -129,8 +123,7 @@ def make_route(feature: Any, place: FeatureRef, label: str | None, colour: str) 
         figures += f", {minutes(read_number(properties, 'seconds', place))}"
     steps, line = read_steps(properties, place), unwrapped(line, line[0][0])
     line = line if len(line) > 1 else line * 2
-    shown = [(street or NO_NAME, way_of(way)) for street, way in steps]
-    return DrawnRoute(name, figures, colour, shown, line, steps)
+    return DrawnRoute(name, figures, colour, [(street or NO_NAME, way_of(way)) for street, way in steps], line)
 
 
 def contour_of(properties: dict[str, Any]) -> str | None:
@@ -194,14 +187,6 @@ def read_steps(properties: dict[str, Any], place: FeatureRef) -> list[tuple[str,
     place.require(isinstance(steps, list) and all(isinstance(step, dict) for step in steps), "has no list of steps")
     streets = [(str(step.get("name") or ""), read_number(step, "metres", place)) for step in steps]
     return [(name, sum(metres for _, metres in some)) for name, some in itertools.groupby(streets, lambda street: street[0])]
-
-
-def names_along(line: list[Point], steps: list[tuple[str, float]]) -> list[tuple[str, Point]]:
-    """Each street that has a name, with the place in the middle of it, the longest first."""
-    *begins, whole = itertools.accumulate((way for _, way in steps), initial=0.0)
-    named = [(way, name, begin + way / 2) for (name, way), begin in zip(steps, begins) if name and way > 0]
-    named.sort(key=lambda each: -each[0])
-    return [(name, point_at_fraction(line, middle / whole)) for _, name, middle in named]
 
 
 def way_of(metres: float) -> str:
