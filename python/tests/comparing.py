@@ -6,7 +6,7 @@ from typing import Any, NamedTuple
 
 import numpy as np
 from model.network import Network, SnappedPoint
-from model.reach import places_within, reached, reached_lines
+from model.reach import places_within, reached
 from model.sphere import Point
 
 Points = Sequence[Point]
@@ -214,13 +214,12 @@ def rings_of(geometry: Any) -> list[list[Point]]:
 
 
 class Contour(NamedTuple):
-    """The contour of what is reached within a limit, of these kinds, simplified by some metres; and the lesser limit before it,
-    -1 for none. Unless parts of it are dropped it has the places that belong to it."""
+    """The contour of what is reached within a limit, of these kinds, simplified by some metres. Unless parts of it are dropped it
+    has the places that belong to it."""
 
     network: Network
     points: Sequence[SnappedPoint]
     limit: int
-    lesser: int
     kinds: Sequence[str]
     metres: float
     is_whole: bool
@@ -230,8 +229,7 @@ class Contour(NamedTuple):
         is_any = any(shares.values())  # (else it may be the square of a node)
         if found is None or found["type"] not in self.kinds or not self.is_whole or not is_any:
             return is_any if found is None else found["type"] not in self.kinds
-        lesser = reached_lines(self.network, self.points, self.lesser)
-        places, are_within = places_within(self.network, shares, lesser, self.metres)
+        places, are_within = places_within(self.network, shares, self.metres)
         steps = np.concatenate([np.hstack((ring[:-1], ring[1:])) for ring in map(np.array, rings_of(found))])
         x, y, other_x, other_y = steps.T[..., None]
         is_beside = (y > places[:, 1]) != (other_y > places[:, 1])

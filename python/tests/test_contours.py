@@ -120,6 +120,22 @@ def test_roads_far_from_what_is_reached_change_nothing(made_roads, monkeypatch):
             assert found == [MultiPolygon(contour.polygons).wkt for contour in contours(reach)]
 
 
+@pytest.mark.parametrize("turns", range(4))
+@pytest.mark.parametrize("limits, away, allowances", [([10_000], 0.00135, [139]), ([1000, 30_000], 0.00117, [100, 200])])
+def test_roads_beyond_a_grid(limits, away, allowances, turns):
+    """The nearest road decides, although it lies beyond the grid, on any of its sides: a contour ends half-way between a road that
+    is reached and one that isn't, 150 m away. So it does in the grid of a lesser contour, 30 m beyond which the other road is."""
+    turned = [lambda x, y: (x, y), lambda x, y: (-y, x), lambda x, y: (-x, -y), lambda x, y: (y, -x)][turns]
+    nodes = [turned(*place) for place in ((0, 0), (0.1, 0), (-0.1, away), (0.1, away))]
+    net = network(nodes, [Road(0, 1, 100_000, 100_000), Road(2, 3, 1000, 1000)])
+    drawn = contours(Reach(net, lengths(net, {0: 0}), limits))
+    for contour, allowance in zip(drawn, allowances, strict=True):
+        far, off = allowance / MILLI / 1000, 2 * contour.step / MILLI / 1000
+        expected = {away / 2 - off: True, away / 2 + off: False, off - far: True, -off - far: False}
+        area = MultiPolygon(contour.polygons)
+        assert {y: area.contains(Point(turned(0.0005, y))) for y in expected} == expected
+
+
 def test_nodes_that_have_lost_their_roads(tmp_path):
     """They lie beside a road that is reached, and make no holes, as their own road does."""
     (tmp_path / "nodes.csv").write_text("lon,lat\n0,0\n0.01,0\n0.004,0\n0.006,0.00001\n")

@@ -4,9 +4,10 @@
 
 What lies inside. A point belongs to the nearest road, if that is within the allowance: an eighth of the extent of what is
 reached, but at least 100 m, and at most 200 m or two steps of the grid, whichever is more. It is inside if the part of
-the road there is reached. Roads are taken as points, half a step apart, and the nearest is found once for all limits. The
-field is the mean of the nine points around, where one inside counts 1 and one outside -1; but inside it is at least 1/3,
-and outside at most -1/3. The contour is the line where the field is 0.
+the road there is reached. Roads are taken as points, half a step apart, and the nearest is found once for all limits. Roads
+beyond the grid take part, since one of them may be nearer than all that are on it. The field is the mean of the nine points
+around, where one inside counts 1 and one outside -1; but inside it is at least 1/3, and outside at most -1/3. The contour is
+the line where the field is 0.
 
 The grid. Its step is a power of two of metres, at most 1/200 of the contour's width or height, whichever is less, but at
 least half a metre. It is greater for a contour so long and narrow that the field would have more than MAX_POINTS. A
@@ -40,14 +41,15 @@ ALLOWANCE_SHARE, MIN_ALLOWANCE, MAX_ALLOWANCE, ALLOWANCE_STEPS = 1 / 8, 100.0, 2
 # The lesser side of what is reached has at least so many steps. (The contour may be a step narrower on either side.)
 STEPS = 205
 MIN_STEP = 0.5
-# The points of a grid; with the rim of one within another there are up to a third more.
+# The points of a grid; one within another, whose sides are aligned with the steps of the next, may have some more.
 MAX_POINTS = 2_700_000
 # Up to this step limits share the finest grid that has points for them: such contours are some hundred metres wide.
 FINE_STEP = 4.0
 # How many times as coarse as a grid the next one is at most.
 RATIO = 16
-# The rim of a grid within another one, for roads there that are near: at most the allowance, and this share of the extent.
-RIM_SHARE = 1 / 16
+# Roads beyond a grid take part up to the allowance, but at most so many half steps away, since points of a grid are nearer to some
+# road on it. The nearest is found for blocks of at least so many points along each side, or of so many parts of that distance.
+MAX_BEYOND, MIN_BLOCK, BLOCKS_BEYOND = 1600, 4, 100
 # No level.
 NONE = 255
 # Points whose distances are found together, since they fit into a processor's cache.
@@ -145,11 +147,9 @@ def step_of(box: Box) -> float:
 def meshes_of(reach: Reach) -> list[Mesh]:
     """The grids, the finest first, each for the limits that have its step, and at most RATIO times as coarse as the last."""
     served: list[tuple[float, int, Box]] = []
-    rim = 0.0
     for limit, reached in enumerate(reach.boxes):
         if reached is not None:
-            rim = allowance_of(reached)
-            box = reached.grown(rim)
+            box = reached.grown(allowance_of(reached))
             step = step_of(reached)
             if served and (served[-1][0] >= step or step <= FINE_STEP and Mesh.over(box, served[-1][0]).points <= MAX_POINTS):
                 served[-1] = served[-1][0], served[-1][1], box
@@ -160,8 +160,7 @@ def meshes_of(reach: Reach) -> list[Mesh]:
         while step < next_step:
             coarser = min(RATIO * step, next_step)
             shown = shown.aligned(coarser)
-            more = min(rim, max(shown.sides) * RIM_SHARE)
-            found.append(Mesh.over(shown.grown(more), step, first, shown))
+            found.append(Mesh.over(shown, step, first, shown))
             step, first = coarser, behind
     return [*found, *(Mesh.over(box, step, first) for step, first, box in served[-1:])]
 
@@ -199,23 +198,27 @@ class Field:
         """`zone` has all roads and nodes within twice the allowance of what is reached: beyond, nothing is inside. What is within
         the box that is drawn already isn't known."""
         self.mesh, self._half, self._drawn = mesh, mesh.step / 2, drawn
-        least = np.full(mesh.points, NONE, np.uint8)
+        self._bits = bits = len(reach.boxes).bit_length()
+        self._mask = (1 << bits) - 1
+        radius = math.floor(max(allowance_of(box) for box in reach.boxes if box is not None) / self._half)
+        least, beyond = np.full(mesh.points, NONE, np.uint8), RoadsBeyond(mesh, min(radius, MAX_BEYOND))
         west, east = np.full(mesh.points // 4, NONE, np.uint8), np.zeros(mesh.points // 4, np.uint8)
         # (of shorter edges both ends are points enough)
-        for edges in reach.edges_near(mesh.box, self._half, zone):
+        for edges in reach.edges_near(beyond.box, self._half, zone):
             spaced = reach.vertices(edges).spaced(self._half)
+            levels = spaced.levels(reach.shares(edges, mesh.first))
             numbers, is_on = mesh.nearest(spaced.points)
-            extend(np.minimum, least, numbers, spaced.levels(reach.shares(edges, mesh.first))[is_on])
-        for points, levels in reach.nodes_near(mesh.box, zone):
+            extend(np.minimum, least, numbers, levels[is_on])
+            beyond.add(spaced.points[~is_on], levels[~is_on])
+        for points, levels in reach.nodes_near(beyond.box, zone):
             numbers, is_on = mesh.nearest(points)
+            beyond.add(points[~is_on], levels[~is_on])
             squares = numbers // (2 * mesh.width) * (mesh.width // 2) + numbers % mesh.width // 2
             extend(np.minimum, least, numbers, levels[is_on])
             extend(np.minimum, west, squares, levels[is_on])
             extend(np.maximum, east, squares, levels[is_on])
-        bits = len(reach.boxes).bit_length()
-        self._bits, self._mask = bits, (1 << bits) - 1
-        farthest = max(allowance_of(box) for box in reach.boxes if box is not None) / self._half
-        self._found = nearest_levels(least.reshape(mesh.height, mesh.width), math.floor(farthest), bits)
+        self._found = nearest_levels(least.reshape(mesh.height, mesh.width), radius, bits)
+        beyond.put_into(self._found, radius, bits)
         squares = np.flatnonzero(west != NONE)
         corners = squares // (mesh.width // 2) * (2 * mesh.width) + squares % (mesh.width // 2) * 2
         for side, levels in enumerate((west, east)):
@@ -252,6 +255,46 @@ class Field:
             for low, high, first in ((box.west, box.east, self.mesh.left), (box.south, box.north, self.mesh.bottom))
         )
         return slice(south, north), slice(west, east)
+
+
+class RoadsBeyond:
+    """The roads beyond a grid, which may be nearer to its points than all roads on it. They are found for blocks of points, on the
+    grid and around it: for each the nearest block that has roads, of which the least level is kept, and a place on one of them."""
+
+    def __init__(self, mesh: Mesh, radius: int) -> None:
+        """They take part up to so many half steps from the grid."""
+        self._mesh, self._block = mesh, max(MIN_BLOCK, radius // BLOCKS_BEYOND)
+        self._blocks = Mesh.over(mesh.box.grown(radius * mesh.step / 2), self._block * mesh.step)
+        self.box = self._blocks.box
+        self._least = np.full(self._blocks.points, NONE, np.uint8)
+        self._places = np.zeros((2, self._blocks.points), np.int32)
+
+    def add(self, points: Floats, levels: Levels) -> None:
+        """Adds points of roads that aren't on the grid."""
+        numbers, is_on = self._blocks.nearest(points)
+        extend(np.minimum, self._least, numbers, levels[is_on])
+        self._places[:, numbers] = np.floor(points[is_on] * (2 / self._mesh.step)).T
+
+    def put_into(self, found: NDArray[np.unsignedinteger[Any]], radius: int, bits: int) -> None:
+        """Has points of the grid, as nearest_levels returns them for a radius, belong to roads beyond it that are nearer."""
+        mesh, blocks, least = self._mesh, self._blocks, self._least.reshape(self._blocks.height, self._blocks.width)
+        if (least == NONE).all():
+            return
+        away, (rows, columns) = distance_transform_edt(least == NONE, return_indices=True)
+        nearest, nearer = rows * blocks.width + columns, ((away - 2) * self._block).clip(0, radius + 1).astype(np.int64)
+        y = (np.arange(mesh.height) + mesh.bottom) // self._block - blocks.bottom
+        x = (np.arange(mesh.width) + mesh.left) // self._block - blocks.left
+        # (only points whose blocks may be nearer to those roads)
+        points = np.flatnonzero(found > (nearer**2 << bits).astype(found.dtype).take(y, axis=0).take(x, axis=1))
+        rows = points // mesh.width
+        columns = points - rows * mesh.width
+        numbers = nearest[y.take(rows), x.take(columns)]
+        to_x, to_y = (axis.take(numbers) for axis in self._places)
+        to_x -= columns + mesh.left
+        to_y -= rows + mesh.bottom
+        squares = np.minimum(to_x * to_x + to_y * to_y, (radius + 1) ** 2).astype(found.dtype)
+        every = found.reshape(-1)
+        every[points] = np.minimum(every.take(points), squares << bits | self._least.take(numbers))
 
 
 def nearest_levels(levels: Levels, radius: int, bits: int) -> NDArray[np.unsignedinteger[Any]]:

@@ -252,13 +252,12 @@ def isochrone(network: Network, request: Request) -> Any:
     points, driven = places_on_roads(network, request), network.turned if request.has("reverse") else network
     metres, is_whole = float(request.value("generalize", "0")), request.value("denoise", "0") == "0"
     features = []
-    limits = [-1, *(round(value * factor) for value in asked)]
     for number, value in reversed([*enumerate(asked)]):
         color = Holds("a colour", lambda text: str(text).startswith("#")) if colors == [""] else f"#{colors[number]}"
         properties: dict[str, Any] = {"contour": int(value) if value.is_integer() else value, "metric": metric}
         properties |= dict.fromkeys(("color", "fill", "fillColor"), color)
         properties |= dict.fromkeys(("opacity", "fill-opacity", "fillOpacity"), 0.33)
         kinds = SHAPES[request.value("polygons", "false")]
-        shape = Contour(driven, points, limits[number + 1], limits[number], kinds, metres, is_whole)
+        shape = Contour(driven, points, round(value * factor), kinds, metres, is_whole)
         features.append({"type": "Feature", "properties": properties, "geometry": shape})
     return {"type": "FeatureCollection", "features": features}

@@ -49,10 +49,10 @@ def reached_lines(network: Network, points: Sequence[SnappedPoint], limit: int) 
     return [clip(network.edges[edge].line, *each) for edge, shares in reached(network, points, limit).items() for each in shares]
 
 
-def places_within(network: Network, shares: dict[int, Shares], lesser: Sequence[list[Point]], metres: float) -> tuple[Any, Any]:
+def places_within(network: Network, shares: dict[int, Shares], metres: float) -> tuple[Any, Any]:
     """Places over what is reached and some way around it, nodes among them, and whether each belongs to the contour: the nearest
-    road is reached there, and near enough. There are none about which steps of a grid decide, or roads beyond the grid, nor those
-    around the lines of a lesser contour, which has a grid of its own; `metres` are those by which the contour is simplified."""
+    road is reached there, and near enough. There are none about which steps of a grid decide; `metres` are those by which the
+    contour is simplified."""
     lines = [clip(network.edges[edge].line, *each) for edge, some in shares.items() for each in some]
     lats = [lat for line in lines for _, lat in line]
     lon, scale = lines[0][0][0], math.radians(EARTH_RADIUS) * np.array([math.cos(math.radians((min(lats) + max(lats)) / 2)), 1.0])
@@ -62,7 +62,7 @@ def places_within(network: Network, shares: dict[int, Shares], lesser: Sequence[
         found[:, 0] = (found[:, 0] - lon + 180) % 360 - 180
         return found * scale
 
-    low, high = box = np.array([choose(in_plane([*itertools.chain(*lines)]), axis=0) for choose in (np.min, np.max)])
+    low, high = np.array([choose(in_plane([*itertools.chain(*lines)]), axis=0) for choose in (np.min, np.max)])
     sides = high - low
     step, beside = max(0.5, 2.0 ** math.floor(math.log2(max(min(sides) / STEPS, 0.5)))), min(max(SHARE * max(sides), LEAST), MOST)
     while 4 * np.prod(sides + 2 * beside) > POINTS * step**2:
@@ -83,17 +83,8 @@ def places_within(network: Network, shares: dict[int, Shares], lesser: Sequence[
     axes = [np.linspace(*ends, PROBES) for ends in zip(low - 1.5 * far, high + 1.5 * far)]
     nodes = in_plane([node.place for node in network.nodes])
     places = np.concatenate((np.stack(np.meshgrid(*axes), axis=-1).reshape(-1, 2), nodes))
-    if lesser:
-        inner = in_plane([*itertools.chain(*lesser)])
-        places = places[~is_in(places, (inner.min(axis=0), inner.max(axis=0)), far + slack)]
-    other = np.concatenate(others)
-    every = np.concatenate(reached), other, other[is_in(other, box, far)]
-    near, *away = (KDTree(some).query(places)[0] if len(some) else math.inf for some in every)
-    lows, highs = (np.minimum(far, each) for each in away)
-    is_clear = (near < lows - slack) | (near > highs + slack)
-    return (places / scale + (lon, 0))[is_clear], (near < highs)[is_clear]
-
-
-def is_in(points: Any, box: Any, metres: float) -> Any:
-    """Whether points of a plane are in a box, or so many metres beside it."""
-    return ((box[0] - metres <= points) & (points <= box[1] + metres)).all(axis=1)
+    every = np.concatenate(reached), np.concatenate(others)
+    near, away = (KDTree(some).query(places)[0] if len(some) else math.inf for some in every)
+    most = np.minimum(far, away)
+    is_clear = np.abs(near - most) > slack
+    return (places / scale + (lon, 0))[is_clear], (near < most)[is_clear]
