@@ -1,5 +1,6 @@
 """How a test script counts what it tries, which cases a word names, and how it ends."""
 import argparse
+import faulthandler
 import subprocess
 import sys
 import typing
@@ -7,6 +8,10 @@ from collections.abc import Callable, Iterable
 
 from .optional import LeftOut, left_out
 from .program import need_program
+
+
+# ./test ends what hangs by SIGABRT: the stacks of all threads are printed.
+faulthandler.enable()
 
 
 class Failed(Exception):
