@@ -15,7 +15,7 @@ import unittest.mock
 import pytest
 from nginx_case import SHIPPED, NginxCase
 from test_osm_to_gr import write_map
-from tool_case import ROOT, SECONDS, TOOLS, VILLAGE
+from tool_case import ROOT, SECONDS, TOOLS, VILLAGE, end
 
 import domethyme
 from domethyme import find_program
@@ -163,8 +163,7 @@ class RecipeTests(NginxCase):
         sockets.mkdir()
         words = f"{bicycles}.rch", "--network", bicycles, "--bind", f"unix:{sockets}/serve.sock"
         process = subprocess.Popen([TOOLS / "domethyme-serve", *words], stderr=subprocess.DEVNULL)
-        self.addCleanup(process.wait)
-        self.addCleanup(process.terminate)
+        self.addCleanup(end, process)
         self.wait_for(lambda: is_taken(f"{sockets}/serve.sock"))
         (upstream,), (locations,) = blocks(PAGE, "upstream domethyme_bicycle"), blocks(PAGE, "    location ~ ^/(route")
         text = SHIPPED.read_text(encoding="utf-8")

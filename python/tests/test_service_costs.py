@@ -13,7 +13,6 @@ import signal
 import socket
 import subprocess
 import sys
-import time
 from unittest import mock
 
 import numpy as np
@@ -25,7 +24,7 @@ from hypothesis import given
 from hypothesis import strategies as st
 from service_case import ServiceCase, changed, workers_of
 from test_generated_service import ask, environ_of, open_service
-from tool_case import PYTHON, ROOT, SECONDS
+from tool_case import PYTHON, ROOT
 
 from domethyme_service import endpoints, queries, slots, worker
 from domethyme_service.costs import MOST, SHORT, Meter, NeedsSlot, Size, Work, expected
@@ -174,12 +173,16 @@ def test_slots_are_shared_fairly():
         """Whether a process gets its slots, which it keeps until the test ends."""
         reads, writes = os.pipe()
         if not (child := os.fork()):
-            os.close(ends[1])
-            os.write(writes, b"%d" % slots_of.acquire(client, is_long))
-            os.read(ends[0], 1)
-            os._exit(0)
+            try:
+                os.close(ends[1])
+                os.write(writes, b"%d" % slots_of.acquire(client, is_long))
+                os.read(ends[0], 1)
+            finally:
+                os._exit(0)
         children.append(child)
-        return os.read(reads, 1) == b"1"
+        os.close(writes)  # (else there is no end to read, if the child ends before)
+        with open(reads, "rb", buffering=0) as answer:
+            return answer.read(1) == b"1"
 
     children, ends = [], os.pipe()
     try:
@@ -440,7 +443,7 @@ def test_where_lines_go(tmp_path, kind):
     ends = os.pipe() if kind == "pipe" else [each.detach() for each in socket.socketpair()]
     if kind == "file":
         ends = [os.open(tmp_path / "log", os.O_RDWR | os.O_CREAT), os.open(tmp_path / "log", os.O_WRONLY)]
-    found = subprocess.run([sys.executable, "-c", script], stdout=subprocess.PIPE, stderr=ends[1], check=True, timeout=SECONDS)
+    found = subprocess.run([sys.executable, "-c", script], stdout=subprocess.PIPE, stderr=ends[1], check=True)
     text = os.read(ends[0], 1 << 20)
     assert {*text.splitlines()[:99]} == {b"\\udcff \xc3\xa9"}
     assert (text.count(b"\n") + int(found.stdout), int(found.stdout) > 10_000) == (20_000, kind != "file")
@@ -570,15 +573,18 @@ class ArbiterTests(ServiceCase):
 
     def test_a_step_of_the_clock(self):
         """By an hour, to either side, as the arbiter and its workers see it: no worker is taken for a silent one."""
-        step = self.folder / "step"
+        step, looks = self.folder / "step", self.folder / "looks"
         step.write_text("0")
-        script = f"own, step = time.time, pathlib.Path({str(step)!r})\n"
-        self.command = changed(f"{script}time.time = lambda: own() + int(step.read_text() or 0)")
+        script = f"own, step, looks = time.time, pathlib.Path({str(step)!r}), open({str(looks)!r}, 'wb', 0)\n"
+        script += "time.time = lambda: own() + int(step.read_text() or 0)\nmurder = gunicorn_app.Arbiter.murder_workers\n"
+        script += "gunicorn_app.Arbiter.murder_workers = lambda arbiter: (murder(arbiter), looks.write(b'.'))\n"
+        self.command = changed(script)
         process = self.serve()
         before = workers_of(process)
         for seconds in (3600, -3600):
             step.write_text(str(seconds))
-            time.sleep(2.5)  # (the arbiter looks each second)
+            count = looks.stat().st_size
+            self.wait_for(lambda count=count: looks.stat().st_size > count + 2)  # (of which two begin after the step)
             self.assertEqual((workers_of(process), self.says("WORKER TIMEOUT")), (before, 0))
         self.stop(process)
 

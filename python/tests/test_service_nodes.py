@@ -202,12 +202,14 @@ def test_sockets(tmp_path, monkeypatch):
     with pytest.raises(StartupError, match="Address already in use"):
         command.listen_unix(str(path))
     assert path.read_text() == "a file"
-    address = "127.8.0.1", 0
-    for _ in range(2):
-        with socket.socket(fileno=int(command.listen_tcp(*address).removeprefix("fd://"))) as listening:
-            address = listening.getsockname()
-            with pytest.raises(StartupError, match=f", port {address[1]}: Address already in use: another --port, or 0 for any that is free"):
-                command.listen_tcp(*address)
-            with socket.create_connection(address):
-                listening.accept()[0].close()
+    with socket.socket() as kept:  # (nobody else is given a port that is bound; the service may listen at it)
+        kept.setsockopt(socket.SOL_SOCKET, socket.SO_REUSEADDR, 1)
+        kept.bind(("127.8.0.1", 0))
+        address = kept.getsockname()
+        for _ in range(2):
+            with socket.socket(fileno=int(command.listen_tcp(*address).removeprefix("fd://"))) as listening:
+                with pytest.raises(StartupError, match=f", port {address[1]}: Address already in use: another --port, or 0 for any that is free"):
+                    command.listen_tcp(*address)
+                with socket.create_connection(address):
+                    listening.accept()[0].close()
     command.check_loopback("::1")

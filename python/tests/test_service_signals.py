@@ -4,7 +4,6 @@ import os
 import pathlib
 import signal
 import socket
-import time
 from unittest import mock
 
 import pytest
@@ -97,10 +96,14 @@ gunicorn_app.Application.load = late
         self.stop(self.serve(environment=NO_END))
 
     def test_an_idle_connection_does_not_hold_up_the_end(self):
+        """One that a worker has accepted, and whose head it waits for."""
+        peeked = self.folder / "peeked"
+        script = f"own, peeked = worker.peek_head, pathlib.Path({str(peeked)!r})\n"
+        self.command = changed(f"{script}worker.peek_head = lambda client: (own(client), peeked.touch())[0]")
         process = self.serve(environment=NO_END)
         with socket.create_connection(("127.0.0.1", self.port), SECONDS) as idle:
             idle.sendall(b"GET")
-            time.sleep(0.2)
+            self.wait_for(peeked.exists)
             self.stop(process)
 
     def test_workers(self):
