@@ -1,4 +1,7 @@
-"""What the tests add to pytest: those that wait begin first, what is optional is left out, and the last line counts all."""
+"""What the tests add to pytest: those that wait begin first, what is optional is left out, the last line counts all, and a test that isn't
+interrupted at its limit ends the run."""
+import faulthandler
+import os
 import subprocess
 
 import pytest
@@ -6,6 +9,8 @@ from kit import optional
 
 # Tests that mostly wait, or take longest: each begins in a worker of its own, before all others.
 FIRST = ["AttackTests", "ReplacedTests", "test_dask.py", "test_web.py", "test_page.py"]
+# The limit of tests that draw: an hour, and none if DRAWS says how many.
+DRAWN = pytest.mark.timeout(0 if os.environ.get("DRAWS") else 3600)
 
 
 @pytest.fixture
@@ -29,9 +34,28 @@ def write(tmp_path, monkeypatch):
 
 def pytest_configure(config):
     config.addinivalue_line("markers", "needs(program): without this program of tests/optional.txt the test is left out")
+    config.standard_error = os.dup(2)  # (which pytest takes for each test)
 
 
+@pytest.hookimpl(hookwrapper=True)
+def pytest_timeout_set_timer(item, settings):
+    """No alarm interrupts code in C, nor a test that takes the alarm for itself: after twice its limit the process ends, with the
+    stacks of all threads."""
+    yield
+    faulthandler.dump_traceback_later(2 * settings.timeout, exit=True, file=item.config.standard_error)
+
+
+@pytest.hookimpl(hookwrapper=True)
+def pytest_timeout_cancel_timer():
+    yield
+    faulthandler.cancel_dump_traceback_later()
+
+
+@pytest.hookimpl(trylast=True)
 def pytest_collection_modifyitems(items):
+    for item in items:
+        if item.get_closest_marker("hypothesis"):
+            item.add_marker(DRAWN)
     items.sort(key=lambda item: next((at for at, name in enumerate(FIRST) if name in item.nodeid), len(FIRST)))
 
 

@@ -22,6 +22,9 @@ from domethyme.network.isochrones import Style, features
 from domethyme.network.outlines import outlines
 from domethyme.network.reach import DECIMALS, METRES_OF_DEGREE, Reach, Zone
 
+pytestmark = pytest.mark.timeout(300)
+
+
 @pytest.fixture(scope="module")
 def made_town():
     return network(*town_map())

@@ -8,7 +8,7 @@ import time
 
 import numpy as np
 import pytest
-from tool_case import PYTHON, SECONDS, TAKES_SIGNALS, VILLAGE, ToolCase
+from tool_case import PYTHON, TAKES_SIGNALS, VILLAGE, ToolCase, end
 
 from domethyme.errors import MapError
 from domethyme.maps import conversion, map_arrays, road_network
@@ -113,12 +113,12 @@ class FailureTests(ProgramCase):
         for number, status in ((signal.SIGINT, 130), (signal.SIGTERM, 143)):
             words = [*TAKES_SIGNALS, *map(str, self.command), "osm_to_gr", str(VILLAGE), "out"]
             process = subprocess.Popen(words, cwd=self.folder, env=self.environment, stderr=subprocess.PIPE, text=True)
-            until = time.monotonic() + SECONDS
-            while not ((self.folder / "pid").exists() and (self.folder / "pid").read_text()) and time.monotonic() < until:
+            self.addCleanup(end, process)
+            while not ((self.folder / "pid").exists() and (self.folder / "pid").read_text()):
                 time.sleep(0.05)
             program = int((self.folder / "pid").read_text())
             process.send_signal(number)
-            said = process.communicate(timeout=SECONDS)[1]
+            said = process.communicate()[1]
             self.assertEqual((process.returncode, said), (status, ""))
             self.assertEqual(self.outputs(), before)
             with self.assertRaises(ProcessLookupError):

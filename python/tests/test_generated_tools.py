@@ -21,7 +21,6 @@ from comparing import Line, Near, difference
 from model.network import Ambiguous, Network, Part, SnappedPoint
 from model.request import Request
 from model.sphere import Point, along
-from tool_case import SECONDS
 
 import domethyme
 from domethyme_tools.cli import ToolError
@@ -69,7 +68,7 @@ def write_rows(path: str, columns: list[str], rows: Any) -> None:
 
 
 def routecli(*words: object, given: str = "") -> str:
-    run = subprocess.run([os.environ["ROUTECLI"], *map(str, words)], input=given, capture_output=True, text=True, timeout=SECONDS)
+    run = subprocess.run([os.environ["ROUTECLI"], *map(str, words)], input=given, capture_output=True, text=True)
     assert run.returncode == 0, run.stderr
     return run.stdout
 

@@ -11,6 +11,7 @@ import pytest
 
 from domethyme.extras import EXTRAS
 
+pytestmark = pytest.mark.timeout(300)
 PYTHON = pathlib.Path(__file__).resolve().parents[1]
 # What each package may import; domethyme_launcher is above all.
 BELOW = {

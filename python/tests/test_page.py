@@ -47,7 +47,7 @@ PAGE = PYTHON / "domethyme_tools/page"
 DOCUMENT = ROOT / "docs/liechtenstein.html"
 # Links of a hierarchy that are arcs: start, end, weight, arcs and middle.
 FIRST, SECOND = (0, 1, 5, 1, NO_MIDDLE), (1, 2, 7, 1, NO_MIDDLE)
-pytestmark = pytest.mark.xdist_group("page")
+pytestmark = [pytest.mark.xdist_group("page"), pytest.mark.timeout(3600)]  # (the library is built, which took 15 minutes once)
 
 
 def run(*words, status=0, **environment):

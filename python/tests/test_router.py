@@ -8,7 +8,7 @@ import unittest.mock
 
 import pytest
 from kit.hierarchy_file import NONE, spelled
-from tool_case import SECONDS, run_python
+from tool_case import run_python
 
 import domethyme
 from domethyme import library
@@ -91,7 +91,7 @@ def test_threads_ask_at_once(ring):
         assert [run.result() for run in one] == [(number * 6) % 60 for number in range(400)]
         assert [run.result().tolist() for run in many] == [[number] * 2000 for number in range(20)]
         with ring._router.searcher() as first, ring._router.searcher() as second:
-            assert pool.submit(ring.length, 0, 7).result(SECONDS) == 7 and first is not second
+            assert pool.submit(ring.length, 0, 7).result() == 7 and first is not second
             assert (first.length(1, 3), second.length(1, 4)) == (2, 3)
 
 

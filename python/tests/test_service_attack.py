@@ -138,7 +138,7 @@ class RestartTests(ServiceCase):
             process.send_signal(signal.SIGTERM)
             answer = read_answer(held)
             self.assertEqual((answer.status, answer.body.count(b"nodes")), (200, 100_000))
-        self.assertEqual(process.wait(SECONDS), 0)
+        self.assertEqual(process.wait(), 0)
 
     def test_what_a_connection_sends(self):
         """It has one request: garbage or another one behind it is ignored. Sixty fields of one form are parsed: no pattern takes

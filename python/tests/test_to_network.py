@@ -19,6 +19,7 @@ from domethyme.network.tables import read_attribution
 from domethyme_tools.cli import ToolError
 from domethyme_tools.to_network import mark
 
+pytestmark = pytest.mark.timeout(300)
 NODES = "node,lon,lat\ndepot,0,0\nshop,0.001,0\n=farm,0.001,0.002\n"
 STREETS = {"50,High Street,primary": ("depot,shop", "shop,depot"), "30,=Lane,residential": ("shop,=farm", "=farm,shop")}
 ARCS = "".join(["from,to,kmh,name,highway\n", *(f"{ends},{street}\n" for street, rows in STREETS.items() for ends in rows)])

@@ -12,7 +12,7 @@ import textwrap
 from unittest import mock
 
 import pytest
-from tool_case import PYTHON, SECONDS, TAKES_SIGNALS
+from tool_case import PYTHON, TAKES_SIGNALS
 
 from domethyme import DomethymeError, atomic_files, csv_tables, dimacs, find_program, program
 from domethyme.network import from_tables, geo, table_files, tables
@@ -99,7 +99,7 @@ class TestEnds:
         return subprocess.Popen([*TAKES_SIGNALS, "/usr/bin/python3", "tool"], encoding="utf-8", env=environment, **streams)
 
     def assert_ends(self, child, status, says):
-        stdout, stderr = child.communicate(timeout=SECONDS)
+        stdout, stderr = child.communicate()
         assert (child.returncode, stderr) == (status, says)
         return stdout
 

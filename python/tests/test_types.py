@@ -5,6 +5,8 @@ import sys
 import pytest
 from tool_case import PYTHON, ROOT
 
+pytestmark = pytest.mark.timeout(600)
+
 
 def scripts(folder):
     """The files of Python in a folder, those without an ending too."""

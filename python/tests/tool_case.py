@@ -10,6 +10,8 @@ import tempfile
 import types
 import unittest
 
+import pytest
+
 from domethyme.csv_tables import unescape_formula
 from domethyme.network.columns import COLUMNS
 
@@ -21,7 +23,8 @@ VILLAGE = HERE / "village.osm"
 # The columns of a network that are in its tables, or made of them
 IN_TABLES = [name for name, column in COLUMNS.items() if not column.is_derived and column.part != "map"]
 
-# What only a hang exceeds, in seconds: no test expects anything sooner.
+# What only a hang exceeds, in seconds, for what has a limit of its own, as a connection. No test expects anything sooner: each ends
+# by its own limit.
 SECONDS = 1800
 # Before the words of a program that is sent signals. What a test inherits may ignore them, as a shell's background job
 # does, and Python makes no KeyboardInterrupt of an interrupt that it was started to ignore.
@@ -45,6 +48,9 @@ def read_field(name, text):
 class ToolCase(unittest.TestCase):
     """A test in an empty folder of its own, `self.folder`, in which the tools run."""
 
+    # (for it starts many processes, each of which takes seconds on a busy machine)
+    pytestmark = pytest.mark.timeout(600)
+
     def setUp(self):
         self.folder = pathlib.Path(tempfile.mkdtemp(prefix="map-tools-"))
         self.addCleanup(shutil.rmtree, self.folder)
@@ -55,7 +61,7 @@ class ToolCase(unittest.TestCase):
 
     def run_program(self, words, status=0, given=None, environment=None):
         stdin = {"stdin": subprocess.DEVNULL} if given is None else {"input": given}
-        ended = subprocess.run([*map(str, words)], cwd=self.folder, capture_output=True, encoding="utf-8", timeout=SECONDS,
+        ended = subprocess.run([*map(str, words)], cwd=self.folder, capture_output=True, encoding="utf-8",
                                env={**os.environ, **(environment or {})}, **stdin)
         self.assertEqual(ended.returncode, status, ended.stderr)
         return ended
