@@ -1,5 +1,5 @@
-"""What the tests add to pytest: those that wait begin first, what is optional is left out, the last line counts all, and a test that isn't
-interrupted at its limit ends the run."""
+"""What the tests add to pytest: those that wait begin first, what is optional is left out, the last line counts all, and a test
+that isn't interrupted at its limit ends the run."""
 import faulthandler
 import os
 import subprocess

@@ -22,6 +22,7 @@ from domethyme.network import net_file
 from domethyme_service.dataset import DatasetPaths, open_dataset
 from domethyme_service.errors import StartupError
 
+pytestmark = pytest.mark.timeout(300)
 FOREIGN = "is the hierarchy of another network than"
 # Three nodes in a row, and a detour: 1 to 2 and 2 to 3 of 100, 1 to 3 of 500 or, in another network, of less.
 NODES = "node,lon,lat\na,0,0\nb,0.001,0\nc,0.002,0\n"

@@ -19,6 +19,8 @@ from tool_case import run_python
 import domethyme
 from domethyme import batch, errors, find_program, graphs
 
+pytestmark = pytest.mark.timeout(300)
+
 # Four nodes: two ways from 0 to 2, of 3 + 4 = 7 and of 9; back from 2 to 0 by 5; node 3 leads to 0 by 6, and nothing to it.
 SQUARE = ([0, 1, 0, 2, 3], [1, 2, 2, 0, 0], [3, 4, 9, 5, 6])
 LARGE = [1 << 40, -5, 7, 9]

@@ -18,6 +18,8 @@ from tool_case import PYTHON, ROOT, TOOLS, VILLAGE
 import domethyme
 from domethyme.progress import reporting
 
+pytestmark = pytest.mark.timeout(300)
+
 
 @pytest.fixture(scope="module")
 def village(tmp_path_factory):

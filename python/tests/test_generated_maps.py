@@ -31,6 +31,8 @@ from domethyme.maps import vehicle_profile
 from domethyme.network import from_tables, parallel
 from domethyme.network.columns import TEXTS
 
+pytestmark = pytest.mark.timeout(300)
+
 # What tags of ways may be, beside those of test_profiles.
 ACCESS = ["yes", "no", "private", "destination", "delivery", "agricultural; forestry", "agricultural;yes", "bicycle", "dismount"]
 SPEEDS = """ 30 mph |45mph|10 knots|70.5kph|50 km/h|40kmh| 50 |none|walk|DE:urban|RO:rural|XY:rural|DE:zone:30|NL:zone60|

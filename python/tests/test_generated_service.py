@@ -32,6 +32,7 @@ from domethyme_service.dataset import DatasetPaths, open_dataset
 from domethyme_service.metrics import SharedMetrics
 from domethyme_service.wsgi import Options, Service
 
+pytestmark = pytest.mark.timeout(300)
 REQUESTS = 6
 # How many places a request of each service has, at most: the small numbers are likelier.
 COUNTS = {"route": [2, 2, 2, 3, 4, 12], "nearest": [1], "table": [1, 2, 3, 6], "trip": [2, 3, 3, 4], "match": [2, 3, 4], "isochrone": [1]}

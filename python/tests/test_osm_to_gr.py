@@ -16,6 +16,7 @@ from domethyme.maps.conversion import options_of
 from domethyme.network.tables import ALL_ARC_COLUMNS, read_attribution
 from domethyme_tools.osm_to_gr import longest_arc, share
 
+pytestmark = pytest.mark.timeout(300)
 LEFT_OUT = """\
 osm_to_gr: ways for destinations alone that are taken as open: 1
 osm_to_gr: ways left out as closed to the vehicle: 3

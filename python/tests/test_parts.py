@@ -22,6 +22,7 @@ from domethyme.network import table_files
 from domethyme_tools import places, table
 from domethyme.drawing import roads as draw_roads
 
+pytestmark = pytest.mark.timeout(300)
 BENCH = pathlib.Path(__file__).resolve().parents[2] / "bench"
 ARCS = np.arange(1, 9), np.roll(np.arange(1, 9), 1), np.arange(10, 18)
 PLACES = "name,lon,lat\n" + "".join(f"p{number},{{}},{{}}\n" for number in range(7))

@@ -21,6 +21,7 @@ import domethyme
 from domethyme import find_program
 from domethyme.dimacs import read_graph
 
+pytestmark = pytest.mark.timeout(300)
 sys.path.insert(0, str(ROOT / "packaging"))
 
 from readme_session import blocks, session  # noqa: E402

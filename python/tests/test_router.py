@@ -14,6 +14,8 @@ import domethyme
 from domethyme import library
 from domethyme.router import Router
 
+pytestmark = pytest.mark.timeout(300)
+
 # Asks a far question in each way, with 2 MB for it and then with as much as it takes, in a process that has freed nothing before.
 REFUSED = """
 import ctypes, resource, sys

@@ -25,7 +25,8 @@ LOCKED = " lock = ctypes.create_string_buffer(64)\n for _ in range(2): ctypes.CD
     (HANGS + " threading.Thread(target=time.sleep, args=[9], name='beside', daemon=True).start()\n time.sleep(100)\n" + PASSES,
      "1 passed, 1 failed", 1, "Stack of beside"),
     (PASSES + HANGS + LOCKED, "1 passed, 1 failed", 1, "in test_b\n"),
-], ids=["passes", "fails", "skipped", "needs what isn't listed", "fails at its end", "isn't imported", "none", "left out", "hangs", "hangs in C"])
+], ids=["passes", "fails", "skipped", "needs what isn't listed", "fails at its end", "isn't imported", "none", "left out", "hangs",
+        "hangs in C"])
 def test_last_line(tmp_path, text, counts, status, told):
     """Runs pytest as tests/run does, by the same settings, on a file of tests with this text."""
     (tmp_path / "tests/kit").mkdir(parents=True)

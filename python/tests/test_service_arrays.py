@@ -10,6 +10,8 @@ from domethyme_service.errors import RequestError
 from domethyme_service.json_text import decimal_texts, number_texts, point_texts
 from domethyme_service.osrm_geometry import MAX_GEOS_POINTS, Budget, simplified, simplify_lines
 
+pytestmark = pytest.mark.timeout(300)
+
 
 @pytest.fixture(autouse=True, params=[None, 76])
 def chunk(request, monkeypatch):

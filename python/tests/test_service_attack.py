@@ -16,6 +16,7 @@ from domethyme_service.costs import Meter, Work
 from domethyme_service.errors import RequestError
 from domethyme_service.osrm_geometry import Budget
 
+pytestmark = pytest.mark.timeout(300)
 PATH = "/nodes/length?from=1&to=2"
 
 

@@ -34,6 +34,8 @@ from domethyme_service.metrics import SharedMetrics
 from domethyme_service.osrm_request import parse_request
 from domethyme_service.slots import Client, Slots
 
+pytestmark = pytest.mark.timeout(300)
+
 # A map of half a million nodes, and places on it.
 BIG = Size(534_105, 2_600_000, 4.03, 1.58)
 A, B, OTHER = Client("203.0.113.9", True), Client("203.0.113.10", True), Client("10.0.0.1", False)

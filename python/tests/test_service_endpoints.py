@@ -14,6 +14,7 @@ from domethyme_service import endpoints, metrics
 from domethyme_service.errors import RequestError
 from domethyme_service.osrm_request import parse_request
 
+pytestmark = pytest.mark.timeout(300)
 PAGE = TOOLS.parent / "docs/SERVICE.md"
 
 

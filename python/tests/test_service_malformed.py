@@ -27,6 +27,7 @@ from domethyme_service.static import POLICY
 from domethyme_service.worker import MAX_HEAD, SHORT_BODY, HeadState, classify_head
 from domethyme_service.wsgi import size_of
 
+pytestmark = pytest.mark.timeout(300)
 SEED, COUNT, FEW = 17, 10_000, 100
 NODES = 38
 HIGH = "0.0003,0.00001;0.0077,-0.00002"

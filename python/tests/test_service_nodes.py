@@ -23,6 +23,8 @@ from domethyme_service.dataset import DatasetPaths
 from domethyme_service.errors import StartupError
 from domethyme_service.wsgi import Options
 
+pytestmark = pytest.mark.timeout(300)
+
 
 @pytest.fixture(scope="module")
 def told(tmp_path_factory):
@@ -208,7 +210,8 @@ def test_sockets(tmp_path, monkeypatch):
         address = kept.getsockname()
         for _ in range(2):
             with socket.socket(fileno=int(command.listen_tcp(*address).removeprefix("fd://"))) as listening:
-                with pytest.raises(StartupError, match=f", port {address[1]}: Address already in use: another --port, or 0 for any that is free"):
+                says = f", port {address[1]}: Address already in use: another --port, or 0 for any that is free"
+                with pytest.raises(StartupError, match=says):
                     command.listen_tcp(*address)
                 with socket.create_connection(address):
                     listening.accept()[0].close()

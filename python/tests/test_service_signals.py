@@ -18,6 +18,7 @@ from domethyme_service.gunicorn_app import Application, Arbiter, child_exit
 from domethyme_service.metrics import SharedMetrics
 from domethyme_service.worker import Worker
 
+pytestmark = pytest.mark.timeout(300)
 PATH = "/nodes/length?from=1&to=2"
 
 

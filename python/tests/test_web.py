@@ -20,8 +20,8 @@ import domethyme
 from domethyme.library import Handle, load_library
 from domethyme.router import Router
 
-pytestmark = [pytest.mark.needs("nodejs"), pytest.mark.needs("wasm-opt"), pytest.mark.needs("wasm-objdump"), pytest.mark.xdist_group("web"),
-              pytest.mark.timeout(3600)]  # (the library is built, which took 15 minutes once)
+pytestmark = [pytest.mark.needs("nodejs"), pytest.mark.needs("wasm-opt"), pytest.mark.needs("wasm-objdump"),
+              pytest.mark.xdist_group("web"), pytest.mark.timeout(3600)]  # (the library is built, which took 15 minutes once)
 
 WEB = ROOT / "packaging/web"
 NODES, PAIRS = 2500, 10_000

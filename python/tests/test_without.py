@@ -27,6 +27,8 @@ from domethyme_service.metrics import SharedMetrics
 from domethyme_service.wsgi import Options, Service
 from domethyme_tools.cli import ToolError
 
+pytestmark = pytest.mark.timeout(300)
+
 # Whether an arc is of a class.
 CLASSES: dict[str, Callable[[Arc], bool]] = {"toll": lambda arc: arc.way % 4 == 1, "ferry": lambda arc: arc.highway == "ferry"}
 

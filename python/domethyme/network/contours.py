@@ -48,8 +48,8 @@ FINE_STEP = 4.0
 # How many times as coarse as a grid the next one is at most.
 RATIO = 16
 # Roads beyond a grid take part up to the allowance, but at most so many half steps away, since points of a grid are nearer to some
-# road on it. The nearest is found for blocks of at least so many points along each side, or of so many parts of that distance. (A grid
-# that was broader by the allowance took two to four times as long for contours of some hundred metres.)
+# road on it. The nearest is found for blocks of at least so many points along each side, or of so many parts of that distance. (A
+# grid that was broader by the allowance took two to four times as long for contours of some hundred metres.)
 MAX_BEYOND, MIN_BLOCK, BLOCKS_BEYOND = 1600, 4, 100
 # No level.
 NONE = 255
