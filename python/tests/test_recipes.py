@@ -24,16 +24,11 @@ from domethyme.dimacs import read_graph
 pytestmark = pytest.mark.timeout(300)
 sys.path.insert(0, str(ROOT / "packaging"))
 
-from readme_session import blocks, session  # noqa: E402
+from readme_session import blocks  # noqa: E402
 
-PAGE, PYTHON_PAGE, OWN_DATA, FROM_OSRM = (
-    (ROOT / "docs" / name).read_text(encoding="utf-8") for name in ("OPERATING.md", "PYTHON.md", "OWN_DATA.md", "FROM_OSRM.md")
-)
+PAGE, PYTHON_PAGE, FROM_OSRM = ((ROOT / "docs" / name).read_text(encoding="utf-8") for name in ("OPERATING.md", "PYTHON.md", "FROM_OSRM.md"))
 PLACE = "/route/v1/{}/0.001,0;0.012,0?overview=false&generate_hints=false"
 REFRESH = ROOT / "packaging/container/refresh"
-TOWN = "<osm version='0.6'>" + "".join(f"<node id='{node}' lon='{node / 1000}' lat='{node % 2 / 1000}'/>" for node in range(1, 5)) + """
-<way id='1'><nd ref='1'/><nd ref='2'/><nd ref='3'/><tag k='highway' v='primary'/><tag k='maxspeed' v='50'/></way>
-<way id='2'><nd ref='2'/><nd ref='4'/><tag k='highway' v='residential'/></way></osm>"""
 
 
 def is_taken(path):
@@ -93,30 +88,18 @@ def test_from_osrm(clone):
     assert {line.partition(" ")[0] for line in f"{serving}{pricing}".splitlines()} == words
 
 
-def test_own_data(clone, monkeypatch):
-    monkeypatch.setenv("PATH", commands(clone)["PATH"])
-    monkeypatch.chdir(clone)
-    assert session(OWN_DATA) == 10 and (clone / "out/firm.svg").stat().st_size > 1000
-
-
-@pytest.mark.parametrize("page, name", [
-    pytest.param(PYTHON_PAGE, "import networkx", marks=pytest.mark.needs("import:networkx")),
-    pytest.param(PYTHON_PAGE, "import osmnx", marks=pytest.mark.needs("import:osmnx")), (OWN_DATA, "import pandas"),
-    pytest.param(PYTHON_PAGE, "import folium", marks=[pytest.mark.needs("import:geopandas"), pytest.mark.needs("import:folium")]),
-    (PYTHON_PAGE, "\ngraph = domethyme.Graph"),
-], ids=["networkx", "osmnx", "pandas", "folium", "depots"])
-def test_python(clone, page, name):
-    """Each block prints what its comments say; the map is the village, moved to where the page asks."""
-    (block,) = blocks(page, f"import domethyme\n{name}")
-    (clone / "out/town.osm").write_text(TOWN)
+@pytest.mark.needs("import:geopandas")
+@pytest.mark.needs("import:folium")
+def test_folium(clone):
+    """The block makes both files, with the village in the place of the page's map."""
+    (block,) = blocks(PYTHON_PAGE, "import domethyme\nimport folium")
     domethyme.from_osm(moved_village(clone), clone / "out/li").close()
     environment = {**os.environ, "PYTHONPATH": os.pathsep.join([str(ROOT / "python"), os.environ.get("PYTHONPATH", "")])}
     code = block.replace("(9.5090, 47.1650)", "(9.5225, 47.1410)")
     ran = subprocess.run(["/usr/bin/python3", "-c", code], cwd=clone, env=environment, capture_output=True, text=True)
     assert ran.returncode == 0, ran.stderr
-    assert ran.stdout.splitlines() == re.findall(r"print\(.*\) +# (.*)", block)
-    made = [clone / f"out/{made}" for made in ("page.html", "routes.gpkg")]
-    assert name != "import folium" or "geojson" in made[0].read_text().lower() and made[1].stat().st_size > 10_000
+    page, routes = (clone / f"out/{made}" for made in ("page.html", "routes.gpkg"))
+    assert "geojson" in page.read_text().lower() and routes.stat().st_size > 10_000
 
 
 class RecipeTests(NginxCase):
