@@ -13,6 +13,7 @@ import socket
 import threading
 import time
 
+import pytest
 from nginx_case import NginxCase
 from service_case import PATIENT, ServiceCase, changed, read_answer, workers_of
 from tool_case import PYTHON, SECONDS
@@ -37,6 +38,8 @@ def allow_files():
 
 class LoadCase(ServiceCase):
     """A test of either way to the service; `begin` starts it."""
+
+    pytestmark = pytest.mark.timeout(1800)
 
     def begin(self, *words):
         return self.serve("--network", self.folder / "v", *words)
