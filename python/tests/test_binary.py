@@ -18,7 +18,7 @@ from domethyme.network.columns import ABOUT, COLUMNS, ColumnSpec
 from domethyme.network.snapping import RoadIndex
 from domethyme_service.tiles import Tiles
 
-pytestmark = pytest.mark.timeout(600)
+pytestmark = pytest.mark.timeout(1200)
 
 # Two nodes, a road both ways and one that is straight on.
 NODES = "node,osm,lon,lat,ends\n1,7,-0.0003,0,\n2,,0.001,0,\n3,9,0.001,0.0011,\n"

@@ -22,7 +22,7 @@ from domethyme.network.isochrones import Style, features
 from domethyme.network.outlines import outlines
 from domethyme.network.reach import DECIMALS, METRES_OF_DEGREE, Reach, Zone
 
-pytestmark = pytest.mark.timeout(300)
+pytestmark = pytest.mark.timeout(600)
 
 
 @pytest.fixture(scope="module")

@@ -33,7 +33,7 @@ from domethyme.network.geo import bearing
 from domethyme.network.snapping import RoadIndex
 from domethyme.protocol import FAR
 
-pytestmark = pytest.mark.timeout(300)
+pytestmark = pytest.mark.timeout(600)
 SETTINGS = list(itertools.product((True, False), ("any", "first"), ("any", "last")))
 
 

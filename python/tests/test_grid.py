@@ -22,7 +22,7 @@ from domethyme.network.snapping import RoadIndex
 from domethyme.network.sphere import great_circle_metres, nearest_on_segments, unit_vectors
 from domethyme_service.tiles import Tiles
 
-pytestmark = pytest.mark.timeout(300)
+pytestmark = pytest.mark.timeout(600)
 FEW = {"CHUNK_SIZE": 3, "MAX_CANDIDATES": 20, "BATCH_SIZE": 7}
 
 

@@ -25,7 +25,7 @@ import domethyme
 from domethyme.network.legs import Leg
 from domethyme.network.matching import Matcher, Trace, nearest_marks, parts_of
 
-pytestmark = pytest.mark.timeout(300)
+pytestmark = pytest.mark.timeout(600)
 STEP = 111.195
 
 

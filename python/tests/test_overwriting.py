@@ -13,7 +13,7 @@ from tool_case import TOOLS, VILLAGE
 import domethyme
 from domethyme.network import from_tables, net_file
 
-pytestmark = pytest.mark.timeout(300)
+pytestmark = pytest.mark.timeout(600)
 NODES = "node,lon,lat\ndepot,0,0\nshop,0.001,0\n"
 ARCS = "from,to,kmh\ndepot,shop,50\nshop,depot,50\n"
 TRIPS = "from_lon,from_lat,to_lon,to_lat\n0,0,0.001,0\n"

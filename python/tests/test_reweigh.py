@@ -21,7 +21,7 @@ from domethyme.dimacs import read_graph
 from domethyme.network import column_file, net_file
 from domethyme.network.reweigh import read_speeds
 
-pytestmark = pytest.mark.timeout(600)
+pytestmark = pytest.mark.timeout(1200)
 CAR = (PYTHON / "domethyme/maps/profiles/car.json").read_text(encoding="utf-8")
 TURNS = CAR.replace('{\n  "about"', '{\n  "turns": {"left": 700, "right": 250, "back": 2000},\n  "about"', 1)
 # A square, 1 2 5 4, with a bar in its middle, a road to 6 that nothing else leads to, and one that a car may not take.

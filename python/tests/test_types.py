@@ -5,7 +5,7 @@ import sys
 import pytest
 from tool_case import PYTHON, ROOT
 
-pytestmark = pytest.mark.timeout(600)
+pytestmark = pytest.mark.timeout(3600)
 
 
 def scripts(folder):

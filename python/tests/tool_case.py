@@ -49,7 +49,7 @@ class ToolCase(unittest.TestCase):
     """A test in an empty folder of its own, `self.folder`, in which the tools run."""
 
     # (for it starts many processes, each of which takes seconds on a busy machine)
-    pytestmark = pytest.mark.timeout(600)
+    pytestmark = pytest.mark.timeout(1200)
 
     def setUp(self):
         self.folder = pathlib.Path(tempfile.mkdtemp(prefix="map-tools-"))
