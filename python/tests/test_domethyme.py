@@ -201,7 +201,7 @@ def test_errors_by_their_kinds(tmp_path):
     ]:
         with pytest.raises(kind) as caught:
             attempt()
-        assert isinstance(caught.value, domethyme.Fault)
+        assert isinstance(caught.value, domethyme.DomethymeError)
         assert isinstance(caught.value, FileNotFoundError) == issubclass(kind, FileNotFoundError)
         assert (caught.value.message, caught.value.status) == (message, status)
         assert str(caught.value) == "\n  ".join([message, *caught.value.explanation])

@@ -244,5 +244,3 @@ def test_from_routes_to_a_picture(tmp_path):
     # the scale's bar is of 50 or 100 metres: the picture has the road, and not the world
     assert re.search(r">(50|100|200) m<", picture)
     assert re.search('<path stroke="#918d86" [^>]*d="([^"]*)"', picture)[1].count("M") == 2
-    run_tool("draw", net, routes, tmp_path / "out.html", "--full-network")
-    assert '"bounds":[[0.0,179.998],[0.0,180.002]]' in (tmp_path / "out.html").read_text()
